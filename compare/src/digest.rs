@@ -1,0 +1,66 @@
+//! The answer to a text as one printed line, in lowercase hexadecimal.
+
+use crate::program::Program;
+use crate::Refusal;
+
+const MODULUS: u64 = 4_294_967_291;
+const FACTOR: u64 = 257;
+
+/// `read`, the counts of classes, fields, statics, methods, instructions and
+/// handlers, and the checksum; or `refused`, number and line.
+pub fn describe(answer: &Result<Program, Refusal>) -> String {
+    match answer {
+        Ok(program) => {
+            let instructions: usize = program.methods.iter().map(|m| m.code.len()).sum();
+            let handlers: usize = program.methods.iter().map(|m| m.handlers.len()).sum();
+            format!(
+                "read {:02x} {:02x} {:02x} {:02x} {:04x} {:04x} {:08x}",
+                program.classes.len(),
+                program.fields.len(),
+                program.statics,
+                program.methods.len(),
+                instructions,
+                handlers,
+                checksum(program),
+            )
+        }
+        Err(refusal) => format!("refused {:02x} {:08x}", refusal.number, refusal.line),
+    }
+}
+
+/// A checksum over the bytes of the program's frames, in order.
+pub fn checksum(program: &Program) -> u32 {
+    let sum = program
+        .frames()
+        .concat()
+        .into_iter()
+        .fold(0, |sum, byte| (sum * FACTOR + u64::from(byte) + 1) % MODULUS);
+    u32::try_from(sum).expect("the modulus is below 2^32")
+}
+
+#[cfg(test)]
+mod tests {
+    use super::*;
+
+    /// Two classes and `return-void`, summed by hand in another way: the
+    /// value of a polynomial at 257, without reduction until the end.
+    #[test]
+    fn checksum_is_a_polynomial() {
+        let text = b"01ff\n0100\n040000010100\n061100000000000000\n";
+        let program = crate::reader::read(text).unwrap();
+        let bytes = [1, 255, 1, 0, 4, 0, 0, 1, 1, 0, 6, 17, 0, 0, 0, 0, 0, 0, 0];
+        let mut power = 1u64;
+        let mut sum = 0u64;
+        for byte in bytes.iter().rev() {
+            sum = (sum + power * (byte + 1)) % MODULUS;
+            power = power * FACTOR % MODULUS;
+        }
+        assert_eq!(u64::from(checksum(&program)), sum);
+        assert_eq!(describe(&Ok(program)), format!("read 02 00 00 01 0001 0000 {sum:08x}"));
+    }
+
+    #[test]
+    fn refusals_print_number_and_line() {
+        assert_eq!(describe(&Err(Refusal::new(4, 61))), "refused 04 0000003d");
+    }
+}

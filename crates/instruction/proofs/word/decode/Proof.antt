@@ -1,0 +1,63 @@
+-- `instruction::decode` meets its contract: what `signed` gives is stored and read back. Assumes nothing.
+use mir.Syntax.{w32}
+use mir.ValLaws.{toZ-ofZ}
+use Rattle.instruction.specs.Word.{instructionOf}
+use borrow.Author.Needs.{needs}
+use Rattle.instruction.proofs.word.decode.Statement.{statement}
+use Rattle.instruction.proofs.word.decode.Tie as tie
+
+cast-o : tie.Need-cast-o
+cast-o c = search needs
+
+cast-a : tie.Need-cast-a
+cast-a c = search needs
+
+cast-b : tie.Need-cast-b
+cast-b c = search needs
+
+cast-c : tie.Need-cast-c
+cast-c c = search needs
+
+cast-d : tie.Need-cast-d
+cast-d c = search needs
+
+cast-x : tie.Need-cast-x
+cast-x c = search needs
+
+cast-y : tie.Need-cast-y
+cast-y c = search needs
+
+cast-z : tie.Need-cast-z
+cast-z c = search needs
+
+cast-u : tie.Need-cast-u
+cast-u c = search needs
+
+signed-requires : tie.Need-signed-requires
+signed-requires c κs = search needs
+
+fields-requires : tie.Need-fields-requires
+fields-requires c κs = search needs
+
+returns : tie.Need-returns
+unfolding instructionOf
+returns c =
+    let s = c .before .signed in
+    rw (c .fields .ensures, toZ-ofZ w32 (s .result) (record { sfits = s .ok }), s .ensures)
+
+pub decode-spec : {M : Type 1} → statement M
+decode-spec =
+    tie.close
+    (tie.spec
+    cast-o
+    cast-a
+    cast-b
+    cast-c
+    cast-d
+    cast-x
+    cast-y
+    cast-z
+    cast-u
+    signed-requires
+    fields-requires
+    returns)

@@ -1,0 +1,22 @@
+-- `program::method_count` meets its contract: word 3, at most 16. Assumes nothing.
+use mathlib.Core.Path.{sym, ap, _∙_}
+use Prim.Native.Nat.{ℕ, min}
+use borrow.Author.Needs.{needs}
+use Rattle.program.proofs.Read.{methods-are}
+use Rattle.program.proofs.method_count.Statement.{statement}
+use Rattle.program.proofs.method_count.Tie as tie
+
+word-requires : tie.Need-word-requires
+word-requires c κs = search needs
+
+at-most-requires : tie.Need-at-most-requires
+at-most-requires c κs = search needs
+
+returns : tie.Need-returns
+returns c =
+    c .at-most .ensures
+    ∙ ap (λ (n : ℕ). min n 16) (c .before .word .ensures)
+    ∙ sym (methods-are (c .before .before .args .t .now))
+
+pub method-count-spec : {M : Type 1} → statement M
+method-count-spec = tie.close (tie.spec word-requires at-most-requires returns)

@@ -1,0 +1,4 @@
+pub mod Lists
+pub mod Program
+pub mod Search
+pub mod Tables

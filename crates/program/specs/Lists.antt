@@ -1,0 +1,20 @@
+-- Lists by index, and the first number that passes a test. Definitions only.
+use mathlib.Core.Bool.{Bool, true, false}
+use mathlib.Core.List.{List, [], _∷_}
+use mathlib.Core.Option.{Option, none, some}
+use Prim.Native.Nat.{ℕ, zero, suc}
+use Rattle.instruction.specs.Word.{pick}
+
+-- f 0, f 1, .., f (n - 1)
+abbrev pub tab : {A : Type 0} → ℕ → (ℕ → A) → List A
+tab zero f = []
+tab (suc n) f = f zero ∷ tab n (λ k. f (suc k))
+
+abbrev pub oneMore : Option ℕ → Option ℕ
+oneMore none = none
+oneMore (some i) = some (suc i)
+
+-- the first of 0, 1, .., n - 1 that passes the test
+abbrev pub first : ℕ → (ℕ → Bool) → Option ℕ
+first zero test = none
+first (suc n) test = pick (test zero) (some zero) (oneMore (first n (λ k. test (suc k))))

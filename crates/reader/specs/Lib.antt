@@ -1,0 +1,4 @@
+pub mod Frame
+pub mod Read
+pub mod Formed
+pub mod Inside

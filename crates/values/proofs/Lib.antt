@@ -1,0 +1,4 @@
+pub mod Bounds
+pub mod Clear
+pub mod Every
+pub mod First
