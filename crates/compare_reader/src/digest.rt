@@ -1,44 +1,59 @@
 // A checksum of the program in tables: of the bytes that its frames have, made from what the tables say.
-use values::Kind;
+use frame::Kind;
 
 // One byte more.
 fn mix(h: u64, b: u64) -> u64 {
     ((h % 4294967291) * 257 + b % 256 + 1) % 4294967291
 }
 
+fn mix_two(h: u64, a: usize, b: usize) -> u64 {
+    mix(mix(h, a as u64), b as u64)
+}
+
+fn mix_half(h: u64, w: u64) -> u64 {
+    mix(mix(mix(mix(h, w / 16777216), w / 65536), w / 256), w)
+}
+
 // The eight bytes of a word, the high one first.
 fn mix_word(h: u64, w: u64) -> u64 {
-    let o = mix(h, w / 72057594037927936);
-    let a = mix(o, w / 281474976710656);
-    let b = mix(a, w / 1099511627776);
-    let c = mix(b, w / 4294967296);
-    mix(mix(mix(mix(c, w / 16777216), w / 65536), w / 256), w)
+    mix_half(mix_half(h, w / 4294967296), w)
 }
 
 fn mix_header(t: &[u64; 768], m: usize, h: u64) -> u64 {
-    let class = mix(mix(h, 4), program::method_class(t, m) as u64);
-    let name = mix(class, program::method_name(t, m) as u64);
-    let kind = mix(name, program::method_kind(t, m) as u64);
-    let registers = mix(kind, program::registers(t, m) as u64);
-    mix(registers, program::arguments(t, m) as u64)
+    let class = mix_two(h, 4, program::method_class(t, m));
+    let kind = mix_two(
+        class,
+        program::method_name(t, m),
+        program::method_kind(t, m),
+    );
+    mix_two(kind, program::registers(t, m), program::arguments(t, m))
 }
 
 fn mix_handler(t: &[u64; 768], m: usize, i: usize, h: u64) -> u64 {
-    let from = mix(mix(h, 5), program::handler_from(t, m, i) as u64);
-    let to = mix(from, program::handler_to(t, m, i) as u64);
-    let target = mix(to, program::handler_target(t, m, i) as u64);
-    mix(target, program::handler_class(t, m, i) as u64)
+    let range = mix_two(
+        mix(h, 5),
+        program::handler_from(t, m, i),
+        program::handler_to(t, m, i),
+    );
+    mix_two(
+        range,
+        program::handler_target(t, m, i),
+        program::handler_class(t, m, i),
+    )
 }
 
 // One frame more.
 fn mix_frame(t: &[u64; 768], k: Kind, m: usize, i: usize, h: u64) -> u64 {
     match k {
-        Kind::Class => mix(mix(h, 1), program::superclass(t, i) as u64),
-        Kind::Field => mix(mix(h, 2), program::field_class(t, i) as u64),
+        Kind::Class => mix_two(h, 1, program::superclass(t, i)),
+        Kind::Field => mix_two(h, 2, program::field_class(t, i)),
         Kind::Static => mix(h, 3),
         Kind::Header => mix_header(t, m, h),
         Kind::Handler => mix_handler(t, m, i, h),
-        Kind::Code => mix_word(mix(h, 6), instruction::encode(program::instruction_at(t, m, i))),
+        Kind::Code => mix_word(
+            mix(h, 6),
+            instruction::encode(program::instruction_at(t, m, i)),
+        ),
         Kind::Unknown => h,
     }
 }

@@ -17,15 +17,11 @@ pub fn length(bytes: [u8; 4]) -> usize {
 
 fn digit(n: u64) -> u8 {
     let d = (n % 16) as u8;
-    if d < 10 {
-        48 + d
-    } else {
-        87 + d
-    }
+    if d < 10 { 48 + d } else { 87 + d }
 }
 
-// Prints the low digits of a number, at most 8 of them.
-pub fn print(n: u64, digits: usize) {
+// The eight low digits of a number.
+fn hex(n: u64) -> [u8; 8] {
     let mut out = [48u8; 8];
     let mut rest = n;
     let mut i: usize = 8;
@@ -34,10 +30,15 @@ pub fn print(n: u64, digits: usize) {
         out[i] = digit(rest);
         rest = rest / 16;
     }
-    if digits < 8 {
+    out
+}
+
+// Prints a space and the low digits of a number, at most 8 of them.
+pub fn print(n: u64, digits: usize) {
+    let out = hex(n);
+    io::write_all(STDOUT_FILENO, b" ");
+    if digits <= 8 {
         let start = 8 - digits;
         io::write_all(STDOUT_FILENO, &out[start..8]);
-    } else {
-        io::write_all(STDOUT_FILENO, &out[0..8]);
     }
 }

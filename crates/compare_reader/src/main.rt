@@ -1,42 +1,49 @@
 // Reads every text of the four files in data/ and prints what it is: a refusal with its number and line, or the counts and a
 // checksum of the program in the tables. What must be printed comes from the second implementation (compare/).
+use frame::Kind;
 use libc::STDOUT_FILENO;
 use reader::Answer;
-use values::Kind;
+ghost use mathlib.Core.Path.{_≡_};
+ghost use lib.ListN.{length};
 
 mod digest;
 mod line;
 
 fn refused(number: u64, at: usize) {
-    io::write_all(STDOUT_FILENO, b"refused ");
+    io::write_all(STDOUT_FILENO, b"refused");
     line::print(number, 2);
-    io::write_all(STDOUT_FILENO, b" ");
     line::print(at as u64, 8);
 }
 
 fn counts(t: &[u64; 768]) {
-    io::write_all(STDOUT_FILENO, b"read ");
+    io::write_all(STDOUT_FILENO, b"read");
     line::print(program::class_count(t) as u64, 2);
-    io::write_all(STDOUT_FILENO, b" ");
     line::print(program::field_count(t) as u64, 2);
-    io::write_all(STDOUT_FILENO, b" ");
     line::print(program::static_count(t) as u64, 2);
-    io::write_all(STDOUT_FILENO, b" ");
     line::print(program::method_count(t) as u64, 2);
-    io::write_all(STDOUT_FILENO, b" ");
+}
+
+fn sums(t: &[u64; 768]) {
     line::print(digest::total(t, Kind::Code), 4);
-    io::write_all(STDOUT_FILENO, b" ");
     line::print(digest::total(t, Kind::Handler), 4);
-    io::write_all(STDOUT_FILENO, b" ");
     line::print(digest::checksum(t), 8);
+}
+
+fn taken(t: &[u64; 768]) {
+    counts(t);
+    sums(t);
+}
+
+fn tables() -> [u64; 768] {
+    [0; 768]
 }
 
 // Reads one text and prints its line.
 fn show(text: &[u8]) {
-    let mut tables = [0u64; 768];
-    let answer = reader::read(text, &mut tables);
+    let mut t = tables();
+    let answer = reader::read(text, &mut t);
     match answer {
-        Answer::Read => counts(&tables),
+        Answer::Read => taken(&t),
         Answer::TooLong => refused(1, 0),
         Answer::BadLine(at) => refused(2, at),
         Answer::BadFrame(at) => refused(3, at),
@@ -65,11 +72,18 @@ fn show_sized(fd: i32, size: usize, buffer: &mut [u8]) -> bool {
     show_text(fd, &mut buffer[..size])
 }
 
+// Room for the longest text.
+fn space() -> [u8; 65600]
+    ensures { λ r. ⌜ 65600 ≡ length r ⌝ }
+{
+    [0; 65600]
+}
+
 // Reads one text of a file and prints its line; false where there is none. A text is a length of four bytes, the high byte
 // first, and so many bytes.
 fn show_next(fd: i32) -> bool {
     let mut head = [0u8; 4];
-    let mut text = [0u8; 131072];
+    let mut text = space();
     if io::read_full(fd, &mut head) < 4 {
         return false;
     }

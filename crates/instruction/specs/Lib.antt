@@ -1,3 +1,2 @@
 pub mod Test
 pub mod Word
-pub mod Names

@@ -4,11 +4,8 @@ ghost use mir.Syntax.{w32};
 ghost use mir.Val.{ofZ};
 ghost use Rattle.instruction.specs.Word.{signedOf, conditionOf, conditionNumber, operationOf, operationNumber, unaryOf, unaryNumber};
 
-mod names; // names.rt: the names that an instruction has, and whether it falls through
 mod word; // word.rt: the word that writes an instruction
 
-pub use names::falls_through;
-pub use names::names_fit;
 pub use word::decode;
 pub use word::encode;
 
@@ -132,16 +129,6 @@ pub enum Instruction {
     },
 }
 
-// How many of each thing there is to name.
-pub struct Limits {
-    pub registers: u64,
-    pub length: u64,
-    pub classes: u64,
-    pub fields: u64,
-    pub statics: u64,
-    pub methods: u64,
-}
-
 // The signed number that four bytes say, high byte first.
 pub fn signed(x: u8, y: u8, z: u8, u: u8) -> i32
     ensures value { λ r. ⌜ r ≡ signedOf x y z u ⌝ }
@@ -155,7 +142,7 @@ pub fn signed(x: u8, y: u8, z: u8, u: u8) -> i32
 }
 
 // Its bits.
-pub fn bits(z: i32) -> u32
+fn bits(z: i32) -> u32
     ensures value { λ r. ⌜ r ≡ ofZ w32 z ⌝ }
 {
     if z >= 0 {
@@ -166,7 +153,7 @@ pub fn bits(z: i32) -> u32
 }
 
 // The condition of a number: what is none of 0 to 4 is le.
-pub fn condition_of(n: u8) -> Condition
+fn condition_of(n: u8) -> Condition
     ensures value { λ r. ⌜ r ≡ conditionOf n ⌝ }
 {
     match n {
@@ -179,7 +166,7 @@ pub fn condition_of(n: u8) -> Condition
     }
 }
 
-pub fn condition_number(c: Condition) -> u64
+fn condition_number(c: Condition) -> u64
     ensures value { λ r. ⌜ r ≡ conditionNumber c ⌝ }
 {
     match c {
@@ -193,7 +180,7 @@ pub fn condition_number(c: Condition) -> u64
 }
 
 // The operation of a number: what is none of 0 to 9 is ushr.
-pub fn operation_of(n: u32) -> Operation
+fn operation_of(n: u32) -> Operation
     ensures value { λ r. ⌜ r ≡ operationOf n ⌝ }
 {
     match n {
@@ -211,7 +198,7 @@ pub fn operation_of(n: u32) -> Operation
     }
 }
 
-pub fn operation_number(o: Operation) -> u64
+fn operation_number(o: Operation) -> u64
     ensures value { λ r. ⌜ r ≡ operationNumber o ⌝ }
 {
     match o {
@@ -230,7 +217,7 @@ pub fn operation_number(o: Operation) -> u64
 }
 
 // The operation of a number: what is not 0 is not.
-pub fn unary_of(n: u8) -> Unary
+fn unary_of(n: u8) -> Unary
     ensures value { λ r. ⌜ r ≡ unaryOf n ⌝ }
 {
     match n {
@@ -239,7 +226,7 @@ pub fn unary_of(n: u8) -> Unary
     }
 }
 
-pub fn unary_number(u: Unary) -> u64
+fn unary_number(u: Unary) -> u64
     ensures value { λ r. ⌜ r ≡ unaryNumber u ⌝ }
 {
     match u {

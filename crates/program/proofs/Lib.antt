@@ -1,9 +1,6 @@
-pub mod Examples
 pub mod Grow
 pub mod Lists
 pub mod Read
-pub mod Searches
 pub mod Tables
-pub mod Upward
 pub mod Words
 pub mod Writes

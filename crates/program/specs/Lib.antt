@@ -1,4 +1,3 @@
 pub mod Lists
 pub mod Program
-pub mod Search
 pub mod Tables

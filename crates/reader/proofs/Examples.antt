@@ -9,8 +9,9 @@ use lib.Dec.{eqb}
 use Rattle.text.specs.Hex.{linesOf, whole, allDigits, digitOf, numberFrom}
 use Rattle.instruction.specs.Word.{instructionOf, fieldsOf, conditionOf, operationOf, unaryOf, signedOf}
 use Rattle.program.specs.Program.{Program, classCount}
-use Rattle.reader.specs.Frame.{kindOf}
-use Rattle.values.specs.Values.{alike, repeated, valueMark, instructionMark, marksIn, methodMarks, marks, firstMark}
+use Rattle.frame.specs.Frame.{kindOf}
+use Rattle.values.specs.Values.{alike, repeated, valueMark, instructionMark}
+use Rattle.marks.specs.Marks.{marksIn, methodMarks, marks, firstMark}
 use Rattle.reader.specs.Read.{Reading, refused, taken, lineKind, lineFields, readLines, judged, valued, readProgram}
 use Rattle.reader.proofs.Texts.{bytesOf}
 
@@ -25,14 +26,14 @@ sampleProgram =
       fields = [];
       statics = 0;
       methods =
-        record { header = 0x0000010100; code = 0x0d01000000000000 ∷ 0x1100000000000000 ∷ []; handlers = [] }
-        ∷ record { header = 0x0001010100; code = 0x1100000000000000 ∷ []; handlers = [] }
-        ∷ [];
+          record { header = 0x0000010100; code = 0x0d01000000000000 ∷ 0x1100000000000000 ∷ []; handlers = [] }
+          ∷ record { header = 0x0001010100; code = 0x1100000000000000 ∷ []; handlers = [] }
+          ∷ [];
     }
 
 pub sample-reads : readProgram (bytesOf sample) ≡ taken sampleProgram
 unfolding readProgram valued judged readLines lineKind lineFields kindOf linesOf whole allDigits digitOf numberFrom
-  marks marksIn methodMarks firstMark valueMark instructionMark repeated alike instructionOf fieldsOf
+    marks marksIn methodMarks firstMark valueMark instructionMark repeated alike instructionOf fieldsOf
 sample-reads = refl
 
 -- a text and what it should give: a refusal, or number 0 and how many classes
@@ -105,6 +106,6 @@ rows =
 
 pub rows-right : allRight rows ≡ true
 unfolding readProgram valued judged readLines lineKind lineFields kindOf linesOf whole allDigits digitOf numberFrom
-  marks marksIn methodMarks firstMark valueMark instructionMark repeated alike instructionOf fieldsOf conditionOf
-  operationOf unaryOf signedOf
+    marks marksIn methodMarks firstMark valueMark instructionMark repeated alike instructionOf fieldsOf conditionOf
+    operationOf unaryOf signedOf
 rows-right = refl

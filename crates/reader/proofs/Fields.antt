@@ -10,13 +10,13 @@ use borrow.Author.Tests.{eq-eqb, ne-eqb}
 use lib.ListN.{length, take, drop, length-take, length-drop}
 use lib.Seq.{take-take, drop-drop, take-nil}
 use Rattle.text.specs.Hex.{numberOf, digitsAt}
-use Rattle.values.specs.declared.Kind.{Kind}
-use Rattle.values.specs.declared.Kind.the-variants.{Class, Field, Static, Header, Handler, Code, Unknown}
-use Rattle.instruction.specs.Test.{passes}
-use Rattle.reader.specs.declared.Counts.{Counts}
-use Rattle.reader.specs.Frame.{kindOf, digitsOf, mayStand}
+use Rattle.frame.specs.declared.Kind.{Kind}
+use Rattle.frame.specs.declared.Kind.the-variants.{Class, Field, Static, Header, Handler, Code, Unknown}
+use Rattle.frame.specs.declared.Counts.{Counts}
+use Rattle.frame.specs.Frame.{kindOf, digitsOf}
 use Rattle.reader.specs.Read.{lineKind, lineFields}
-use Rattle.reader.specs.Inside.{lineAt, step, counted, placeOf, stored, framed, framedTables}
+use Rattle.frame.specs.Places.{step, stepOf, tablesWith}
+use Rattle.reader.specs.Inside.{lineAt, framed, framedTables}
 
 drop-take : (n m : ℕ) (xs : List ℕ) → drop n (take (n + m) xs) ≡ take m (drop n xs)
 drop-take zero m xs = rw (zero-add m)
@@ -51,6 +51,7 @@ module _ (s : List ℕ) (at d : ℕ) (two : 2 ≤ d) where
     where
       sum : (d : ℕ) → 2 ≤ d → d ≡ 2 + (d - 2)
       sum d h = omega arith
+
       least : (d : ℕ) → d ≤ 18 → d - 2 ≡ min (d - 2) 16
       least d h = omega arith
 
@@ -67,22 +68,13 @@ module _ (s : List ℕ) (at d : ℕ) (two : 2 ≤ d) (room : at + d < length s) 
       → (step 3 n ≡ framed (lineAt s at d) n) × (ws ≡ framedTables (lineAt s at d) n ws)
   wrong-length h =
       let f : eqb (length (lineAt s at d .bytes)) (digitsOf (lineKind (lineAt s at d))) ≡ false =
-            rw (kind-is, line-length s at d two room) (ne-eqb d (digitsOf k) h) in
+      rw (kind-is, line-length s at d two room) (ne-eqb d (digitsOf k) h) in
       (rw f, rw f)
 
-  right-length : d ≡ digitsOf k → eqb (length (lineAt s at d .bytes)) (digitsOf (lineKind (lineAt s at d))) ≡ true
-  right-length h = rw (kind-is, line-length s at d two room) (eq-eqb d (digitsOf k) h)
-
-  pub cannot-stand : d ≡ digitsOf k → passes (mayStand n k) ≡ false
-      → (step 4 n ≡ framed (lineAt s at d) n) × (ws ≡ framedTables (lineAt s at d) n ws)
-  cannot-stand h g =
-      let f : passes (mayStand n (lineKind (lineAt s at d))) ≡ false = rw kind-is g in
-      (rw (right-length h, f), rw (right-length h, f))
-
-  pub stands : (w : ℕ) → d ≡ digitsOf k → passes (mayStand n k) ≡ true → w ≡ numberOf (digitsAt s (at + 2) (d - 2))
-      → (step 0 (counted n k) ≡ framed (lineAt s at d) n)
-      × (stored ws (placeOf n k) w ≡ framedTables (lineAt s at d) n ws)
-  stands w h g v =
+  pub right-length : (w : ℕ) → d ≡ digitsOf k → w ≡ numberOf (digitsAt s (at + 2) (d - 2))
+      → (stepOf n k ≡ framed (lineAt s at d) n) × (tablesWith n k w ws ≡ framedTables (lineAt s at d) n ws)
+  right-length w h v =
       let few : d ≤ 18 = omega (arith, h, digits-few k) in
-      let f : passes (mayStand n (lineKind (lineAt s at d))) ≡ true = rw kind-is g in
-      (rw (right-length h, f, kind-is), rw (right-length h, f, kind-is, v, line-fields s at d two few))
+      let f : eqb (length (lineAt s at d .bytes)) (digitsOf (lineKind (lineAt s at d))) ≡ true =
+      rw (kind-is, line-length s at d two room) (eq-eqb d (digitsOf k) h) in
+      (rw (f, kind-is), rw (f, kind-is, v, line-fields s at d two few))

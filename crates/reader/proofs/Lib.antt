@@ -1,6 +1,5 @@
 pub mod Texts
 pub mod Examples
-pub mod Added
 pub mod Lines
 pub mod Fields
 pub mod Turn

@@ -12,12 +12,13 @@ use Rattle.instruction.specs.Test.{passes, Holds}
 use Rattle.instruction.proofs.Laws.{holds}
 use Rattle.program.specs.Program.{Program}
 use Rattle.program.specs.Tables.{Limited, tablesOf}
-use Rattle.reader.specs.declared.Counts.{Counts}
-use Rattle.reader.specs.declared.Step.{Step}
-use Rattle.reader.specs.Frame.{digitsOf, countsOf, mayStand, mayEnd, added}
+use Rattle.frame.specs.declared.Counts.{Counts}
+use Rattle.frame.specs.declared.Step.{Step}
+use Rattle.frame.specs.Frame.{digitsOf, countsOf, mayStand, mayEnd, added}
 use Rattle.reader.specs.Read.{Reading, refused, taken, lineKind, lineFields, readLines}
-use Rattle.reader.specs.Inside.{step, counted, placeOf, stored, framed, framedTables}
-use Rattle.reader.proofs.Added.{added-tables, added-counts, added-limited}
+use Rattle.frame.specs.Places.{step}
+use Rattle.reader.specs.Inside.{framed, framedTables}
+use Rattle.frame.proofs.Added.{added-tables, added-counts, added-limited}
 
 -- both tests passed
 stood : (a b : Bool) (c d : Counts) → pick a (pick b (step 0 c) (step 4 d)) (step 3 d) .number ≡ 0

@@ -12,9 +12,9 @@ use Rattle.text.specs.Hex.{linesOf}
 use Rattle.program.specs.Program.{Program, noProgram}
 use Rattle.program.specs.Tables.{Limited, tablesOf, programIn}
 use Rattle.program.proofs.Tables.{program-of-tables}
-use Rattle.values.specs.declared.Stop.{Stop}
-use Rattle.values.specs.Values.{marks, firstMark}
-use Rattle.values.proofs.Clear.{mark-numbers}
+use Rattle.marks.specs.declared.Stop.{Stop}
+use Rattle.marks.specs.Marks.{marks, firstMark}
+use Rattle.marks.proofs.Clear.{mark-numbers}
 use Rattle.reader.specs.declared.Answer.{Answer}
 use Rattle.reader.specs.declared.Answer.the-variants.{Read, TooLong}
 use Rattle.reader.specs.Read.{Reading, refused, taken, readLines, judged, valued, readProgram, readingNumber, readingValues, tablesAfter, numberOf, valuesOf}

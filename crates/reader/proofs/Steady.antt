@@ -15,11 +15,11 @@ use Rattle.instruction.specs.Test.{passes, Holds}
 use Rattle.instruction.proofs.Laws.{holds}
 use Rattle.program.specs.Program.{Method, Program, noMethod, noProgram, classCount, methodCount, codeLength}
 use Rattle.program.specs.Tables.{Limited}
-use Rattle.values.specs.declared.Kind.{Kind}
-use Rattle.values.specs.declared.Kind.the-variants.{Class, Field, Static, Header, Handler, Code, Unknown}
-use Rattle.reader.specs.Frame.{digitsOf, countsOf, mayStand, mayEnd, added}
+use Rattle.frame.specs.declared.Kind.{Kind}
+use Rattle.frame.specs.declared.Kind.the-variants.{Class, Field, Static, Header, Handler, Code, Unknown}
+use Rattle.frame.specs.Frame.{digitsOf, countsOf, mayStand, mayEnd, added}
 use Rattle.reader.specs.Read.{Reading, refused, taken, lineKind, lineFields, readLines}
-use Rattle.reader.proofs.Added.{added-limited}
+use Rattle.frame.proofs.Added.{added-limited}
 
 -- within the limits, and every method but the last has an instruction
 pub record Steady (p : Program) : Type 0 where
@@ -75,7 +75,7 @@ ended p s h =
       classes = h .0;
       methods = h .1 .0;
       coded =
-        λ m l.
+          λ m l.
           by-test (eqb m (methodCount p - 1))
           (λ e. rw (eqb-true m (methodCount p - 1) e) (h .1 .1))
           (λ e. s .coded m (omega (arith, eqb-false m (methodCount p - 1) e)));

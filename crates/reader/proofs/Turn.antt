@@ -12,14 +12,14 @@ use Rattle.text.proofs.Lines.{next-line, broken-line, no-line}
 use Rattle.instruction.specs.Test.{passes}
 use Rattle.program.specs.Program.{Program, noProgram}
 use Rattle.program.specs.Tables.{Limited, tablesOf}
-use Rattle.values.specs.Values.{stop}
-use Rattle.values.specs.declared.Stop.{Stop}
-use Rattle.reader.specs.declared.Counts.{Counts}
-use Rattle.reader.specs.declared.Step.{Step}
-use Rattle.reader.specs.Frame.{countsOf, mayEnd}
+use Rattle.marks.specs.Marks.{stop}
+use Rattle.marks.specs.declared.Stop.{Stop}
+use Rattle.frame.specs.declared.Counts.{Counts}
+use Rattle.frame.specs.declared.Step.{Step}
+use Rattle.frame.specs.Frame.{countsOf, mayEnd}
 use Rattle.reader.specs.Read.{Reading, refused, taken, readLines}
-use Rattle.reader.specs.Inside.{Small, counts, lineAt, framed, framedTables, Walked}
-use Rattle.reader.proofs.Added.{small}
+use Rattle.frame.specs.Places.{counts}
+use Rattle.reader.specs.Inside.{lineAt, framed, framedTables, Walked}
 use Rattle.reader.proofs.Lines.{Going, going, falling, broken, ended, missing}
 
 -- what the text reads to, by line
@@ -92,10 +92,10 @@ module _ (text t : List ℕ) (at line : ℕ) (n : Counts) (b : Before text t at 
       (omega arith)
 
   module _ (d : ℕ) (e : lineReadOf (linesOf (drop at text)) ≡ Whole d) where
-    pub room : (2 ≤ d) × (at + d < length text) × Small n
+    pub room : (2 ≤ d) × (at + d < length text)
     room =
         let w = next-line text at d e in
-        (omega (arith, w .1, w .2), w .0, rw (b .counted) (small (b .program) (b .limited)))
+        (omega (arith, w .1, w .2), w .0)
 
     module _ (s : Step) (f : s ≡ framed (lineAt text at d) n) where
       -- the step, from the program's own counts
@@ -106,7 +106,7 @@ module _ (text t : List ℕ) (at line : ℕ) (n : Counts) (b : Before text t at 
       at-fault ws h =
           let w = next-line text at d e in
           let g : framed (lineAt text at d) (countsOf (b .program)) .number ≡ 0 → ⊥ =
-                λ z. h (ap (λ (x : Step). x .number) step-is ∙ z) in
+          λ z. h (ap (λ (x : Step). x .number) step-is ∙ z) in
           let r = falling (b .program) (lineAt text at d) (linesOf (drop (at + d + 1) text)) line (w .4) g in
           rw step-is
           (walked-refused (whole-reading text) (framed (lineAt text at d) (countsOf (b .program)) .number) line ws
@@ -120,7 +120,7 @@ module _ (text t : List ℕ) (at line : ℕ) (n : Counts) (b : Before text t at 
           let w = next-line text at d e in
           let z′ : framed (lineAt text at d) (countsOf (b .program)) .number ≡ 0 = rw step-is at z in
           let o : Going (b .program) (lineAt text at d) (linesOf (drop (at + d + 1) text)) line =
-                going (b .program) (lineAt text at d) (linesOf (drop (at + d + 1) text)) line (w .4) (b .limited) z′ in
+          going (b .program) (lineAt text at d) (linesOf (drop (at + d + 1) text)) line (w .4) (b .limited) z′ in
           let k : at + d + 1 ≡ at + (d + 1) = omega arith in
           record {
             program = o .next;
@@ -130,7 +130,7 @@ module _ (text t : List ℕ) (at line : ℕ) (n : Counts) (b : Before text t at 
             counted = ap (λ (x : Step). x .counts) step-is ∙ sym (o .counts);
             tables = (rw (b .counted, b .tables) at g) ∙ sym (o .tables);
             reads =
-              rest (lineAt text at d ∷ linesOf (drop (at + d + 1) text)) (w .3)
-              ∙ o .reads
-              ∙ ap (λ (j : ℕ). readLines (linesOf (drop j text)) (o .next) (line + 1)) k;
+                rest (lineAt text at d ∷ linesOf (drop (at + d + 1) text)) (w .3)
+                ∙ o .reads
+                ∙ ap (λ (j : ℕ). readLines (linesOf (drop j text)) (o .next) (line + 1)) k;
           }

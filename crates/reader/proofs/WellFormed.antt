@@ -12,10 +12,11 @@ use Rattle.text.proofs.Cases.{by-test, never}
 use Rattle.instruction.specs.Test.{Test, Holds}
 use Rattle.instruction.specs.Word.{fallsThrough}
 use Rattle.program.specs.Program.{Program, noProgram, classCount, methodCount, superclass, methodKind, arguments, codeLength, instructionAt}
-use Rattle.values.specs.declared.Stop.{Stop}
-use Rattle.values.specs.Values.{superTest, classTest, methodTest, marks, firstMark}
-use Rattle.values.specs.Valued.{Valued}
-use Rattle.values.proofs.Clear.{clear, alone}
+use Rattle.marks.specs.declared.Stop.{Stop}
+use Rattle.values.specs.Values.{superTest, classTest, methodTest}
+use Rattle.marks.specs.Marks.{marks, firstMark}
+use Rattle.marks.specs.Valued.{Valued}
+use Rattle.marks.proofs.Clear.{clear, alone}
 use Rattle.reader.specs.Read.{Reading, refused, taken, readLines, judged, valued, readProgram}
 use Rattle.reader.specs.Formed.{Formed, FormedMethod}
 use Rattle.reader.proofs.Turn.{whole-reading, nothing-limited}
@@ -53,9 +54,9 @@ module _ (p : Program) (e : Ended p) (v : Valued p) where
         names = λ pc k. v .code m pc l k .1 .0;
         calls = λ pc k. v .code m pc l k .1 .1;
         last =
-          second (eqb (codeLength p m - 1 + 1) (codeLength p m)) (fallsThrough (instructionAt p m (codeLength p m - 1)))
-          (eq-eqb (codeLength p m - 1 + 1) (codeLength p m) (omega arith))
-          (v .last m (codeLength p m - 1) l end);
+            second (eqb (codeLength p m - 1 + 1) (codeLength p m)) (fallsThrough (instructionAt p m (codeLength p m - 1)))
+            (eq-eqb (codeLength p m - 1 + 1) (codeLength p m) (omega arith))
+            (v .last m (codeLength p m - 1) l end);
         covers = λ j k. v .handlers m j l k .0;
         within = λ j k. v .handlers m j l k .1 .0;
         target = λ j k. v .handlers m j l k .1 .1 .0;

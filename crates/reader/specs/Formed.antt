@@ -4,7 +4,7 @@ use mathlib.Core.Bool.{Bool, true, false}
 use Prim.Native.Nat.{ℕ, _-_, _≤_, _<_}
 use Rattle.instruction.specs.Test.{Holds}
 use Rattle.instruction.specs.Word.{wordOf, fallsThrough}
-use Rattle.instruction.specs.Names.{named}
+use Rattle.operands.specs.Names.{named}
 use Rattle.program.specs.Program.{Program, classCount, fieldCount, methodCount, superclass, fieldClass, methodClass, methodName, methodKind, registers, arguments, codeLength, wordAt, instructionAt, handlerCount, handlerFrom, handlerTo, handlerTarget, handlerClass}
 use Rattle.program.specs.Tables.{Limited}
 use Rattle.values.specs.Values.{limitsOf, callTest}

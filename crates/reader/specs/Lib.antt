@@ -1,4 +1,3 @@
-pub mod Frame
 pub mod Read
 pub mod Formed
 pub mod Inside

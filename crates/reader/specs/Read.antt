@@ -9,12 +9,12 @@ use Rattle.instruction.specs.Word.{pick}
 use Rattle.instruction.specs.Test.{passes}
 use Rattle.program.specs.Program.{Program, noProgram}
 use Rattle.program.specs.Tables.{tablesOf}
-use Rattle.values.specs.declared.Kind.{Kind}
+use Rattle.frame.specs.declared.Kind.{Kind}
 use Rattle.reader.specs.declared.Answer.{Answer}
 use Rattle.reader.specs.declared.Answer.the-variants.{Read, TooLong, BadLine, BadFrame, OutOfOrder, BadValue, FallsThrough}
-use Rattle.values.specs.declared.Stop.{Stop}
-use Rattle.reader.specs.Frame.{kindOf, digitsOf, countsOf, mayStand, mayEnd, added}
-use Rattle.values.specs.Values.{marks, firstMark}
+use Rattle.marks.specs.declared.Stop.{Stop}
+use Rattle.frame.specs.Frame.{kindOf, digitsOf, countsOf, mayStand, mayEnd, added}
+use Rattle.marks.specs.Marks.{marks, firstMark}
 
 pub data Reading : Type 0 where
   refused : (number line : ℕ) → Reading

@@ -1,6 +1,8 @@
 // The reader: a program text into tables that the caller lends, or a refusal with its number and line.
+use frame::Counts;
+use frame::Step;
+use marks::Stop;
 use text::LineRead;
-use values::Stop;
 ghost use mathlib.Core.Path.{_≡_};
 ghost use Prim.Native.Nat.{ℕ, _+_, _≤_, _<_};
 ghost use lib.ListN.{length};
@@ -8,9 +10,7 @@ ghost use Rattle.text.specs.Hex.{linesOf};
 ghost use Rattle.program.specs.Program.{noProgram};
 ghost use Rattle.program.specs.Tables.{tablesOf};
 ghost use Rattle.reader.specs.Read.{readLines, readProgram, readingNumber, readingValues, tablesAfter, numberOf, valuesOf};
-ghost use Rattle.reader.specs.Inside.{Small, lineAt, framed, framedTables, Walked, answerOf};
-
-mod order;
+ghost use Rattle.reader.specs.Inside.{lineAt, framed, framedTables, Walked, answerOf};
 
 // What a text turned out to be. A refusal has its line; that of the length has line 0.
 pub enum Answer {
@@ -23,45 +23,21 @@ pub enum Answer {
     FallsThrough(usize),
 }
 
-// The frames of each kind so far; instructions and handlers are those of the last method.
-pub struct Counts {
-    pub classes: usize,
-    pub fields: usize,
-    pub statics: usize,
-    pub methods: usize,
-    pub code: usize,
-    pub handlers: usize,
-}
-
-// Where a frame's fields go, where its count stands, and the new count.
-pub struct Place {
-    pub word: usize,
-    pub count: usize,
-    pub value: usize,
-}
-
-// What a line brings: a refusal's number or 0, and the counts after it.
-pub struct Step {
-    pub number: usize,
-    pub counts: Counts,
-}
-
 // Takes the frame of a whole line, or tells why it cannot stand.
-fn frame(text: &[u8], at: usize, digits: usize, n: Counts, t: &mut [u64; 768]) -> Step
-    requires { ⌜ (2 ≤ digits) × (at + digits < length (now text)) × Small n ⌝ }
+fn take_frame(text: &[u8], at: usize, digits: usize, n: Counts, t: &mut [u64; 768]) -> Step
+    requires { ⌜ (2 ≤ digits) × (at + digits < length (now text)) ⌝ }
     ensures value { λ r. ⌜ r ≡ framed (lineAt (now (text .entry)) at digits) n ⌝ }
     ensures memory { λ r. ⌜ now (t .exit) ≡ framedTables (lineAt (now (text .entry)) at digits) n (now (t .entry)) ⌝ }
 {
-    let kind = order::kind_of(text::number_at(text, at, 2));
-    if digits != order::digits_of(kind) {
-        return Step { number: 3, counts: n };
-    }
-    if !order::may_stand(n, kind) {
-        return Step { number: 4, counts: n };
+    let kind = frame::kind_of(text::number_at(text, at, 2));
+    if digits != frame::digits_of(kind) {
+        return Step {
+            number: 3,
+            counts: n,
+        };
     }
     let fields = text::number_at(text, at + 2, digits - 2);
-    order::store(t, order::place_of(n, kind), fields);
-    Step { number: 0, counts: order::counted(n, kind) }
+    frame::take(n, kind, fields, t)
 }
 
 // Frames, their order and their counts: refusals 2, 3 and 4, by line. The tables hold the program so far.
@@ -83,16 +59,19 @@ fn walk(text: &[u8], t: &mut [u64; 768]) -> Stop
         let read = text::line_at(text, at);
         match read {
             LineRead::End => {
-                if order::may_end(n) {
+                if frame::may_end(n) {
                     return Stop { number: 0, line };
                 }
                 return Stop { number: 4, line };
             }
             LineRead::Broken => return Stop { number: 2, line },
             LineRead::Whole(digits) => {
-                let step = frame(text, at, digits, n, &mut *t);
+                let step = take_frame(text, at, digits, n, &mut *t);
                 if step.number != 0 {
-                    return Stop { number: step.number, line };
+                    return Stop {
+                        number: step.number,
+                        line,
+                    };
                 }
                 n = step.counts;
                 at += digits + 1;
@@ -115,6 +94,13 @@ fn refusal(number: usize, line: usize) -> Answer
     }
 }
 
+// The tables of no program.
+fn empty() -> [u64; 768]
+    ensures tables { λ r. ⌜ r ≡ tablesOf noProgram ⌝ }
+{
+    [0; 768]
+}
+
 // Reads a program text. Read: the tables hold the program. Refused: they are as they were.
 pub fn read(text: &[u8], t: &mut [u64; 768]) -> Answer
     ensures answer { λ r. ⌜ (numberOf r ≡ readingNumber (readProgram (now (text .entry)))) × (valuesOf r ≡ readingValues (readProgram (now (text .entry)))) ⌝ }
@@ -123,12 +109,12 @@ pub fn read(text: &[u8], t: &mut [u64; 768]) -> Answer
     if 65536 < text.len() {
         return Answer::TooLong;
     }
-    let mut draft = [0u64; 768];
+    let mut draft = empty();
     let order = walk(text, &mut draft);
     if order.number != 0 {
         return refusal(order.number, order.line);
     }
-    let value = values::first_mark(&draft);
+    let value = marks::first_mark(&draft);
     if value.number != 0 {
         return refusal(value.number, value.line);
     }

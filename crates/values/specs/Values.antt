@@ -5,17 +5,14 @@ use mathlib.Core.List.{List, [], _∷_, _++_}
 use mathlib.Core.Option.{Option, none, some}
 use Prim.Native.Nat.{ℕ, zero, suc, _+_}
 use lib.Dec.{eqb, ltb}
-use Rattle.instruction.specs.declared.Limits.{Limits}
+use Rattle.operands.specs.declared.Limits.{Limits}
 use Rattle.instruction.specs.declared.Instruction.{Instruction}
 use Rattle.instruction.specs.declared.Instruction.the-variants.{Nop, Move, Const, Goto, If, IfZero, Binop, Unop, NewInstance, Iget, Iput, Sget, Sput, InvokeVirtual, InvokeStatic, MoveResult, MoveException, Return, ReturnVoid, Throw, InstanceOf, CheckCast}
 use Rattle.instruction.specs.Test.{Test, always, under, most, same, _&_, given, never, passes}
 use Rattle.instruction.specs.Word.{pick, wordOf, fallsThrough}
-use Rattle.instruction.specs.Names.{named}
+use Rattle.operands.specs.Names.{named}
 use Rattle.program.specs.Lists.{tab, first}
 use Rattle.program.specs.Program.{Program, classCount, fieldCount, methodCount, superclass, fieldClass, methodClass, methodName, methodKind, registers, arguments, codeLength, wordAt, instructionAt, handlerCount, handlerFrom, handlerTo, handlerTarget, handlerClass}
-use Rattle.values.specs.declared.Kind.{Kind}
-use Rattle.values.specs.declared.Kind.the-variants.{Class, Field, Static, Header, Handler, Code, Unknown}
-use Rattle.values.specs.declared.Stop.{Stop}
 
 -- "Class 0 has s = ff. Any other class has a superclass number lower than its own"
 abbrev pub superTest : ℕ → ℕ → Test
@@ -125,50 +122,3 @@ valueMark test = pick (passes test) 0 5
 unfoldable pub instructionMark : Program → ℕ → ℕ → ℕ
 instructionMark p m pc =
     pick (passes (instructionTest p m pc)) (pick (passes (lastTest p m pc)) 0 6) 5
-
--- how many lines of a kind stand together: of a method's lines, method m's
-abbrev pub linesIn : Program → Kind → ℕ → ℕ
-linesIn p Class m = classCount p
-linesIn p Field m = fieldCount p
-linesIn p Static m = p .statics
-linesIn p Header m = 1
-linesIn p Handler m = handlerCount p m
-linesIn p Code m = codeLength p m
-linesIn p Unknown m = 0
-
--- the mark of line i among them
-abbrev pub markAt : Program → Kind → ℕ → ℕ → ℕ
-markAt p Class m i = valueMark (classTest p i)
-markAt p Field m i = valueMark (fieldTest p i)
-markAt p Static m i = 0
-markAt p Header m i = valueMark (methodTest p m)
-markAt p Handler m i = valueMark (handlerTest p m i)
-markAt p Code m i = instructionMark p m i
-markAt p Unknown m i = 0
-
--- their marks
-unfoldable pub marksIn : Program → Kind → ℕ → List ℕ
-marksIn p k m = tab (linesIn p k m) (markAt p k m)
-
--- the marks of a method's lines
-unfoldable pub methodMarks : Program → ℕ → List ℕ
-methodMarks p m = marksIn p Header m ++ (marksIn p Code m ++ marksIn p Handler m)
-
--- f 0 ++ f 1 ++ .. ++ f (n - 1)
-abbrev pub joined : ℕ → (ℕ → List ℕ) → List ℕ
-joined zero f = []
-joined (suc n) f = f zero ++ joined n (λ k. f (suc k))
-
--- the marks of all lines of a program's text, in its order
-unfoldable pub marks : Program → List ℕ
-marks p =
-    marksIn p Class 0
-    ++ (marksIn p Field 0 ++ (marksIn p Static 0 ++ joined (methodCount p) (methodMarks p)))
-
-abbrev pub stop : ℕ → ℕ → Stop
-stop number line = record { number = number; line = line }
-
--- the first line with a mark, from a line on; number 0 and the line after them where none has one
-unfoldable pub firstMark : List ℕ → ℕ → Stop
-firstMark [] line = stop 0 line
-firstMark (mark ∷ rest) line = pick (eqb mark 0) (firstMark rest (line + 1)) (stop mark line)

@@ -1,133 +1,188 @@
-// Field values of a program in tables: the first line whose values document 01 does not allow.
-use instruction::Limits;
+// What each frame's values are asked.
+use instruction::Instruction;
+use operands::Limits;
+use operands::both;
+use operands::implies;
 ghost use mathlib.Core.Path.{_≡_};
-ghost use Prim.Native.Nat.{ℕ, _+_, _≤_};
-ghost use Rattle.program.specs.Program.{methodCount};
+ghost use mathlib.Core.Bool.{not, _&&_, _||_};
+ghost use Prim.Native.Nat.{ℕ, _+_};
+ghost use Rattle.instruction.specs.Test.{passes};
+ghost use Rattle.instruction.specs.Word.{pick};
+ghost use Rattle.program.specs.Program.{classCount};
 ghost use Rattle.program.specs.Tables.{programIn};
-ghost use Rattle.values.specs.Values.{marks, marksIn, methodMarks, markAt, linesIn, joined, firstMark};
+ghost use Rattle.values.specs.Values.{superTest, classTest, fieldTest, headerTest, alike, repeated, methodTest, limitsOf, staticTest, callTest, instructionTest, lastTest, rangeTest, handlerTest, instructionMark};
 
-mod tests;
-
-// The kind of a frame. `Header` is a method's own frame, `Code` an instruction's.
-pub enum Kind {
-    Class,
-    Field,
-    Static,
-    Header,
-    Handler,
-    Code,
-    Unknown,
-}
-
-// Where a walk stopped: a refusal's number and line, or 0 and the line after the last.
-pub struct Stop {
-    pub number: usize,
-    pub line: usize,
-}
-
-// How many lines of a kind stand together.
-fn lines_in(t: &[u64; 768], k: Kind, m: usize) -> usize
-    ensures value { λ r. ⌜ r ≡ linesIn (programIn (now (t .entry))) k m ⌝ }
+// A line's mark, by whether its values are allowed.
+pub fn value_mark(fits: bool) -> usize
+    ensures value { λ r. ⌜ r ≡ pick fits 0 5 ⌝ }
 {
-    match k {
-        Kind::Class => program::class_count(t),
-        Kind::Field => program::field_count(t),
-        Kind::Static => program::static_count(t),
-        Kind::Header => 1,
-        Kind::Handler => program::handler_count(t, m),
-        Kind::Code => program::code_length(t, m),
-        Kind::Unknown => 0,
-    }
+    if fits { 0 } else { 5 }
 }
 
-// The mark of line i among them: its refusal, or 0.
-fn mark_at(t: &[u64; 768], k: Kind, m: usize, i: usize) -> usize
-    ensures value { λ r. ⌜ r ≡ markAt (programIn (now (t .entry))) k m i ⌝ }
+fn super_fits(c: usize, s: usize) -> bool
+    ensures value { λ r. ⌜ r ≡ passes (superTest c s) ⌝ }
 {
-    match k {
-        Kind::Class => tests::value_mark(tests::class_fits(t, i)),
-        Kind::Field => tests::value_mark(tests::field_fits(t, i)),
-        Kind::Static => 0,
-        Kind::Header => tests::value_mark(tests::method_fits(t, m)),
-        Kind::Handler => tests::value_mark(tests::handler_fits(t, m, i)),
-        Kind::Code => tests::instruction_mark(t, m, i),
-        Kind::Unknown => 0,
-    }
+    if c == 0 { s == 255 } else { s < c }
 }
 
-// The first marked line of a kind.
-fn scan(t: &[u64; 768], k: Kind, m: usize, line: usize) -> Stop
-    requires { ⌜ line ≤ 1000 ⌝ }
-    ensures value { λ r. ⌜ r ≡ firstMark (marksIn (programIn (now (t .entry))) k m) line ⌝ }
+pub fn class_fits(t: &[u64; 768], c: usize) -> bool
+    ensures value { λ r. ⌜ r ≡ passes (classTest (programIn (now (t .entry))) c) ⌝ }
 {
-    let n = lines_in(t, k, m);
-    let mut i: usize = 0;
-    while i < n {
-        let mark = mark_at(t, k, m, i);
-        if mark != 0 {
-            return Stop {
-                number: mark,
-                line: line + i,
-            };
+    super_fits(c, program::superclass(t, c))
+}
+
+pub fn field_fits(t: &[u64; 768], f: usize) -> bool
+    ensures value { λ r. ⌜ r ≡ passes (fieldTest (programIn (now (t .entry))) f) ⌝ }
+{
+    program::field_class(t, f) < program::class_count(t)
+}
+
+// The fields of a method's frame but for its name.
+fn header_fits(classes: usize, m: usize, class: usize, kind: usize, r: usize, a: usize) -> bool
+    ensures value { λ b. ⌜ b ≡ passes (headerTest classes m class kind r a) ⌝ }
+{
+    let shape = both(
+        0 < r,
+        both(
+            r <= 16,
+            both(
+                a <= r,
+                both(
+                    implies(kind == 0, 0 < a),
+                    implies(m == 0, both(kind == 1, a == 0)),
+                ),
+            ),
+        ),
+    );
+    both(class < classes, both(kind < 2, shape))
+}
+
+// Whether methods k and m share class and name.
+fn alike(t: &[u64; 768], m: usize, k: usize) -> bool
+    ensures value { λ r. ⌜ r ≡ alike (programIn (now (t .entry))) m k ⌝ }
+{
+    both(
+        program::method_class(t, k) == program::method_class(t, m),
+        program::method_name(t, k) == program::method_name(t, m),
+    )
+}
+
+// Whether an earlier method has the class and name of method m.
+fn repeated(t: &[u64; 768], m: usize) -> bool
+    ensures value { λ r. ⌜ r ≡ repeated (programIn (now (t .entry))) m ⌝ }
+{
+    let mut k: usize = 0;
+    while k < m {
+        if alike(t, m, k) {
+            return true;
         }
-        i += 1;
+        k += 1;
     }
-    Stop {
-        number: 0,
-        line: line + n,
+    false
+}
+
+pub fn method_fits(t: &[u64; 768], m: usize) -> bool
+    ensures value { λ r. ⌜ r ≡ passes (methodTest (programIn (now (t .entry))) m) ⌝ }
+{
+    let fits = header_fits(
+        program::class_count(t),
+        m,
+        program::method_class(t, m),
+        program::method_kind(t, m),
+        program::registers(t, m),
+        program::arguments(t, m),
+    );
+    both(fits, !repeated(t, m))
+}
+
+// What an instruction of method m can name.
+fn limits_of(t: &[u64; 768], m: usize) -> Limits
+    ensures value { λ r. ⌜ r ≡ limitsOf (programIn (now (t .entry))) m ⌝ }
+{
+    Limits {
+        registers: program::registers(t, m) as u64,
+        length: program::code_length(t, m) as u64,
+        classes: program::class_count(t) as u64,
+        fields: program::field_count(t) as u64,
+        statics: program::static_count(t) as u64,
+        methods: program::method_count(t) as u64,
     }
 }
 
-// The first marked line of a method.
-fn scan_method(t: &[u64; 768], m: usize, line: usize) -> Stop
-    requires { ⌜ line ≤ 900 ⌝ }
-    ensures value { λ r. ⌜ r ≡ firstMark (methodMarks (programIn (now (t .entry))) m) line ⌝ }
+// Whether a static call fits its method.
+fn call_fits(t: &[u64; 768], i: Instruction) -> bool
+    ensures value { λ r. ⌜ r ≡ passes (callTest (programIn (now (t .entry))) i) ⌝ }
 {
-    let header = scan(t, Kind::Header, m, line);
-    if header.number != 0 {
-        return header;
-    }
-    let code = scan(t, Kind::Code, m, header.line);
-    if code.number != 0 {
-        return code;
-    }
-    scan(t, Kind::Handler, m, code.line)
+    let Instruction::InvokeStatic {
+        method,
+        count,
+        first,
+    } = i
+    else {
+        return true;
+    };
+    let m = method as usize;
+    let b = count as usize;
+    both(
+        program::method_kind(t, m) == 1,
+        both(program::arguments(t, m) == b, implies(b == 0, first == 0)),
+    )
 }
 
-// The first marked line of all methods.
-fn scan_methods(t: &[u64; 768], line: usize) -> Stop
-    requires { ⌜ line ≤ 100 ⌝ }
-    ensures value { λ r. ⌜ r ≡ firstMark (joined (methodCount (programIn (now (t .entry)))) (methodMarks (programIn (now (t .entry))))) line ⌝ }
+fn instruction_fits(t: &[u64; 768], m: usize, pc: usize) -> bool
+    ensures value { λ r. ⌜ r ≡ passes (instructionTest (programIn (now (t .entry))) m pc) ⌝ }
 {
-    let n = program::method_count(t);
-    let mut m: usize = 0;
-    let mut at = line;
-    while m < n {
-        let s = scan_method(t, m, at);
-        if s.number != 0 {
-            return s;
-        }
-        at = s.line;
-        m += 1;
+    let w = program::code_word(t, m, pc) as u64;
+    let i = instruction::decode(w);
+    if instruction::encode(i) != w {
+        return false;
     }
-    Stop {
-        number: 0,
-        line: at,
+    both(operands::names_fit(limits_of(t, m), i), call_fits(t, i))
+}
+
+// Whether an instruction is its method's last and falls through.
+fn ends_badly(t: &[u64; 768], m: usize, pc: usize) -> bool
+    ensures value { λ r. ⌜ not r ≡ passes (lastTest (programIn (now (t .entry))) m pc) ⌝ }
+{
+    let n = program::code_length(t, m);
+    if pc < n {
+        both(
+            pc + 1 == n,
+            operands::falls_through(program::instruction_at(t, m, pc)),
+        )
+    } else {
+        false
     }
 }
 
-// The first line with a value that is not allowed, or whose instruction is the last and falls through.
-pub fn first_mark(t: &[u64; 768]) -> Stop
-    ensures value { λ r. ⌜ r ≡ firstMark (marks (programIn (now (t .entry)))) 1 ⌝ }
+pub fn instruction_mark(t: &[u64; 768], m: usize, pc: usize) -> usize
+    ensures value { λ r. ⌜ r ≡ instructionMark (programIn (now (t .entry))) m pc ⌝ }
 {
-    let classes = scan(t, Kind::Class, 0, 1);
-    if classes.number != 0 {
-        return classes;
+    if !instruction_fits(t, m, pc) {
+        return 5;
     }
-    let fields = scan(t, Kind::Field, 0, classes.line);
-    if fields.number != 0 {
-        return fields;
+    if ends_badly(t, m, pc) {
+        return 6;
     }
-    let statics = scan(t, Kind::Static, 0, fields.line);
-    scan_methods(t, statics.line)
+    0
+}
+
+// f < t ≤ length, the target and the class exist.
+fn range_fits(length: usize, classes: usize, f: usize, t: usize, g: usize, c: usize) -> bool
+    ensures value { λ r. ⌜ r ≡ passes (rangeTest length classes f t g c) ⌝ }
+{
+    both(f < t, both(t <= length, both(g < length, c < classes)))
+}
+
+pub fn handler_fits(t: &[u64; 768], m: usize, h: usize) -> bool
+    ensures value { λ r. ⌜ r ≡ passes (handlerTest (programIn (now (t .entry))) m h) ⌝ }
+{
+    range_fits(
+        program::code_length(t, m),
+        program::class_count(t),
+        program::handler_from(t, m, h),
+        program::handler_to(t, m, h),
+        program::handler_target(t, m, h),
+        program::handler_class(t, m, h),
+    )
 }

@@ -1,33 +1,25 @@
+-- `compare_reader::show_sized` meets its contract. Assumes nothing.
 use lib.Seq.{length-take-le}
 use mathlib.Core.Path.{sym}
 use borrow.Author.Needs.{needs}
 use Rattle.compare_reader.proofs.show_sized.Statement.{statement}
 use Rattle.compare_reader.proofs.show_sized.Tie as tie
-use Rattle.compare_reader.proofs.show_sized.Reads as reads
-use Rattle.compare_reader.proofs.show_sized.Lts as lts
-use Rattle.compare_reader.proofs.show_text.Reads as show-text-reads
 
--- src/main.rt:63:9
 returns : tie.Need-returns
 returns c = search needs
 
--- src/main.rt:65:19
 slice-relend-prefix-show-text : tie.Need-slice-relend-prefix-show-text
 slice-relend-prefix-show-text c = search needs
 
--- src/main.rt:65:19
 slice-aggregate-show-text : tie.Need-slice-aggregate-show-text
 slice-aggregate-show-text c = sym (length-take-le (c .before .before .before .args .size) (c .before .before .before .args .buffer .now) (c .before .if1 .left))
 
--- src/main.rt:65:5
 show-text-requires : tie.Need-show-text-requires
 show-text-requires c κs = search needs
 
--- src/main.rt:61:1
 same-length : tie.Need-same-length
 same-length c = search needs
 
--- src/main.rt:61:1
 returns-2 : tie.Need-returns-2
 returns-2 c = search needs
 

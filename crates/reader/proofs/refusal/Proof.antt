@@ -1,26 +1,20 @@
+-- `reader::refusal` meets its contract. Assumes nothing.
 use borrow.Author.Tests.{ne-eqb}
 use Rattle.reader.proofs.refusal.Statement.{statement}
 use Rattle.reader.proofs.refusal.Tie as tie
-use Rattle.reader.proofs.refusal.Reads as reads
-use Rattle.reader.proofs.refusal.Lts as lts
 
--- src/lib.rt:106:1
 returns : tie.Need-returns
 returns c = rw (c .match .keys1)
 
--- src/lib.rt:106:1
 returns-2 : tie.Need-returns-2
 returns-2 c = rw (c .match .keys2)
 
--- src/lib.rt:106:1
 returns-3 : tie.Need-returns-3
 returns-3 c = rw (c .match .keys3)
 
--- src/lib.rt:106:1
 returns-4 : tie.Need-returns-4
 returns-4 c = rw (c .match .keys4)
 
--- src/lib.rt:106:1
 returns-5 : tie.Need-returns-5
 returns-5 c = simp (ne-eqb _ _ (c .match .rest .0 .0 .0 .1), ne-eqb _ _ (c .match .rest .0 .0 .1), ne-eqb _ _ (c .match .rest .0 .1), ne-eqb _ _ (c .match .rest .1))
 

@@ -1,15 +1,8 @@
-use Prim.Native.Nat.{ℕ, _+_, _-_, _≤_, _<_}
-use mathlib.Core.Path.{_≡_}
-use native.Mathlib.Omega.{arith}
-use lib.ListN.{length, length-set}
+-- `compare_reader::digest::checksum` meets its contract. Assumes nothing.
+use Prim.Native.Nat.{_-_, _≤_}
 use borrow.Author.Needs.{needs}
 use Rattle.compare_reader.proofs.digest.checksum.Statement.{statement}
 use Rattle.compare_reader.proofs.digest.checksum.Tie as tie
-use Rattle.compare_reader.proofs.digest.checksum.Reads as reads
-use Rattle.compare_reader.proofs.digest.checksum.Lts as lts
-use Rattle.compare_reader.proofs.digest.mix_frames.Reads as mix-frames-reads
-use Rattle.compare_reader.proofs.digest.mix_method.Reads as mix-method-reads
-use Rattle.program.proofs.method_count.Reads as method-count-reads
 
 abbrev Inv-loop : tie.InvT-loop
 Inv-loop t n classes fields sum₀ m₀ sum m = m ≤ n
@@ -17,43 +10,33 @@ Inv-loop t n classes fields sum₀ m₀ sum m = m ≤ n
 abbrev μ-loop : tie.MeasureT-loop
 μ-loop t n classes fields sum₀ m₀ sum m = n - m
 
--- src/digest.rt:78:9
 method-count-requires : tie.Need-method-count-requires Inv-loop μ-loop
 method-count-requires c κs = search needs
 
--- src/digest.rt:79:9
 mix-frames-requires : tie.Need-mix-frames-requires Inv-loop μ-loop
 mix-frames-requires c κs = search needs
 
--- src/digest.rt:80:9
 mix-frames-requires-2 : tie.Need-mix-frames-requires-2 Inv-loop μ-loop
 mix-frames-requires-2 c κs = search needs
 
--- src/digest.rt:81:9
 mix-frames-requires-3 : tie.Need-mix-frames-requires-3 Inv-loop μ-loop
 mix-frames-requires-3 c κs = search needs
 
--- src/digest.rt:83:5
 loop-holds : tie.Need-loop-holds Inv-loop μ-loop
 loop-holds c = search needs
 
--- src/digest.rt:84:9
 mix-method-requires : tie.Need-mix-method-requires Inv-loop μ-loop
 mix-method-requires c κs = search needs
 
--- src/digest.rt:85:9
 add-m : tie.Need-add-m Inv-loop μ-loop
 add-m c = search needs
 
--- src/digest.rt:83:5
 loop-less : tie.Need-loop-less Inv-loop μ-loop
 loop-less c = search needs
 
--- src/digest.rt:83:5
 loop-again : tie.Need-loop-again Inv-loop μ-loop
 loop-again c = search needs
 
--- src/digest.rt:77:1
 returns : tie.Need-returns Inv-loop μ-loop
 returns c = search needs
 

@@ -1,0 +1,16 @@
+-- `frame::may_end` meets its contract. Assumes nothing.
+use borrow.Author.Needs.{needs}
+use Rattle.frame.proofs.may_end.Statement.{statement}
+use Rattle.frame.proofs.may_end.Tie as tie
+
+both-requires : tie.Need-both-requires
+both-requires c κs = search needs
+
+both-requires-2 : tie.Need-both-requires-2
+both-requires-2 c κs = search needs
+
+returns : tie.Need-returns
+returns c = cc
+
+pub may-end-spec : {M : Type 1} → statement M
+may-end-spec = tie.close (tie.spec both-requires both-requires-2 returns)

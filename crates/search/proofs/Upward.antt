@@ -1,0 +1,96 @@
+-- The way upward from a class: as the class number falls at each step, any number of steps that is not less than it gives the
+-- same answer, so that one step may be taken at a time. Assumes nothing.
+use mathlib.Core.Path.{_≡_, refl, sym, ap, _∙_}
+use mathlib.Core.Bool.{Bool, true, false, _&&_, _||_}
+use Prim.Native.Nat.{ℕ, zero, suc, _≤_, _<_, zero-le}
+use native.Mathlib.Omega.{arith}
+use lib.Dec.{eqb, ltb}
+use borrow.Author.Tests.{ltb-true, lt-ltb, le-ltb, eq-eqb, ne-eqb}
+use Rattle.instruction.specs.Word.{pick}
+use Rattle.search.specs.declared.Callee.{Callee}
+use Rattle.search.specs.declared.Callee.the-variants.{Found, Missing}
+use Rattle.program.specs.Program.{Program, superclass}
+use Rattle.search.specs.Search.{belowIn, below, methodIn, orUpward, calleeIn, virtualCallee}
+
+-- an answer by steps: `own c rest` at class c, where the rest is the answer from above, or `none` where the way ends
+module _ {A : Type 0} (up : ℕ → ℕ) (own : ℕ → A → A) (none : A) (answer : ℕ → ℕ → A)
+    (start : (c : ℕ) → answer zero c ≡ own c none)
+    (more : (n c : ℕ) → answer (suc n) c ≡ own c (pick (ltb (up c) c) (answer n (up c)) none)) where
+  same-above : (m n c : ℕ) (t : Bool) → ltb (up c) c ≡ t → (up c < c → answer m (up c) ≡ answer n (up c)) → pick t (answer m (up c)) none ≡ pick t (answer n (up c)) none
+  same-above m n c true e h = h (ltb-true (up c) c e)
+  same-above m n c false e h = refl
+
+  -- at class 0 the way ends
+  at-zero : (n : ℕ) → answer (suc n) zero ≡ answer zero zero
+  at-zero n = rw (more n zero, le-ltb (up zero) zero zero-le) (sym (start zero))
+
+  same : (m n c : ℕ) → c ≤ m → c ≤ n → answer m c ≡ answer n c
+  same zero zero c l k = refl
+  same zero (suc n) zero l k = sym (at-zero n)
+  same zero (suc n) (suc c) l k = absurd (omega arith)
+  same (suc m) zero zero l k = at-zero m
+  same (suc m) zero (suc c) l k = absurd (omega arith)
+  same (suc m) (suc n) c l k =
+      more m c
+      ∙ ap (own c) (same-above m n c (ltb (up c) c) refl (λ h. same m n (up c) (omega arith) (omega arith)))
+      ∙ sym (more n c)
+
+  -- with as many steps as the class number
+  one-step : (c : ℕ) → answer c c ≡ own c (pick (ltb (up c) c) (answer (up c) (up c)) none)
+  one-step zero = rw (le-ltb (up zero) zero zero-le) (start zero)
+  one-step (suc c) =
+      more c (suc c)
+      ∙ ap (own (suc c)) (same-above c (up (suc c)) (suc c) (ltb (up (suc c)) (suc c)) refl (λ h. same c (up (suc c)) (up (suc c)) (omega arith) (omega arith)))
+
+or-false : (b : Bool) → b ≡ b || false
+or-false true = refl
+or-false false = refl
+
+and-pick : (b c : Bool) → b && c ≡ pick b c false
+and-pick true c = refl
+and-pick false c = refl
+
+or-missing : (r : Callee) → r ≡ orUpward r Missing
+or-missing (Found m) = refl
+or-missing Missing = refl
+
+module _ (p : Program) where
+  module _ (c top : ℕ) where
+    pub below-step : below p c top ≡ eqb c top || pick (ltb (superclass p c) c) (below p (superclass p c) top) false
+    unfolding belowIn
+    below-step =
+        one-step (superclass p) (λ k r. eqb k top || r) false (λ n k. belowIn n p k top) (λ k. or-false (eqb k top))
+        (λ n k. ap (λ (b : Bool). eqb k top || b) (and-pick (ltb (superclass p k) k) (belowIn n p (superclass p k) top)))
+        c
+
+    -- a class is below itself
+    pub below-self : c ≡ top → below p c top ≡ true
+    below-self same = rw (below-step, eq-eqb c top same)
+
+    -- another, of superclass s
+    module _ (other : c ≡ top → ⊥) (s : ℕ) (e : s ≡ superclass p c) where
+      pub below-above : s < c → below p c top ≡ below p s top
+      below-above l = rw (e, below-step, ne-eqb c top other, lt-ltb (superclass p c) c (rw e at l))
+
+      pub below-end : c ≤ s → below p c top ≡ false
+      below-end l = rw (below-step, ne-eqb c top other, le-ltb (superclass p c) c (rw e at l))
+
+  module _ (c name count : ℕ) where
+    pub callee-step : virtualCallee p c name count ≡ orUpward (methodIn p c name count) (pick (ltb (superclass p c) c) (virtualCallee p (superclass p c) name count) Missing)
+    unfolding calleeIn
+    callee-step =
+        one-step (superclass p) (λ k r. orUpward (methodIn p k name count) r) Missing (λ n k. calleeIn n p k name count)
+        (λ k. or-missing (methodIn p k name count))
+        (λ n k. refl)
+        c
+
+    pub callee-own : (m : ℕ) → methodIn p c name count ≡ Found m → virtualCallee p c name count ≡ Found m
+    callee-own m e = callee-step ∙ rw e
+
+    -- where class c has none, of superclass s
+    module _ (lacks : methodIn p c name count ≡ Missing) (s : ℕ) (e : s ≡ superclass p c) where
+      pub callee-above : s < c → virtualCallee p c name count ≡ virtualCallee p s name count
+      callee-above l = rw (e, callee-step, lacks, lt-ltb (superclass p c) c (rw e at l))
+
+      pub callee-end : c ≤ s → virtualCallee p c name count ≡ Missing
+      callee-end l = rw (callee-step, lacks, le-ltb (superclass p c) c (rw e at l))

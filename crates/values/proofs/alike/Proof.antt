@@ -1,0 +1,35 @@
+-- `values::alike` meets its contract. Assumes nothing.
+use borrow.Author.Needs.{needs}
+use Rattle.values.specs.Values.{alike}
+use Rattle.values.proofs.alike.Statement.{statement}
+use Rattle.values.proofs.alike.Tie as tie
+
+method-class-requires : tie.Need-method-class-requires
+method-class-requires c κs = search needs
+
+method-class-requires-2 : tie.Need-method-class-requires-2
+method-class-requires-2 c κs = search needs
+
+method-name-requires : tie.Need-method-name-requires
+method-name-requires c κs = search needs
+
+method-name-requires-2 : tie.Need-method-name-requires-2
+method-name-requires-2 c κs = search needs
+
+both-requires : tie.Need-both-requires
+both-requires c κs = search needs
+
+returns : tie.Need-returns
+unfolding alike
+returns c = cc
+
+pub alike-spec : {M : Type 1} → statement M
+alike-spec =
+    tie.close
+    (tie.spec
+    method-class-requires
+    method-class-requires-2
+    method-name-requires
+    method-name-requires-2
+    both-requires
+    returns)

@@ -1,0 +1,16 @@
+-- `values::class_fits` meets its contract. Assumes nothing.
+use borrow.Author.Needs.{needs}
+use Rattle.values.proofs.class_fits.Statement.{statement}
+use Rattle.values.proofs.class_fits.Tie as tie
+
+superclass-requires : tie.Need-superclass-requires
+superclass-requires c κs = search needs
+
+super-fits-requires : tie.Need-super-fits-requires
+super-fits-requires c κs = search needs
+
+returns : tie.Need-returns
+returns c = cc
+
+pub class-fits-spec : {M : Type 1} → statement M
+class-fits-spec = tie.close (tie.spec superclass-requires super-fits-requires returns)

@@ -1,0 +1,41 @@
+-- `values::handler_fits` meets its contract. Assumes nothing.
+use borrow.Author.Needs.{needs}
+use Rattle.values.proofs.handler_fits.Statement.{statement}
+use Rattle.values.proofs.handler_fits.Tie as tie
+
+code-length-requires : tie.Need-code-length-requires
+code-length-requires c κs = search needs
+
+class-count-requires : tie.Need-class-count-requires
+class-count-requires c κs = search needs
+
+handler-from-requires : tie.Need-handler-from-requires
+handler-from-requires c κs = search needs
+
+handler-to-requires : tie.Need-handler-to-requires
+handler-to-requires c κs = search needs
+
+handler-target-requires : tie.Need-handler-target-requires
+handler-target-requires c κs = search needs
+
+handler-class-requires : tie.Need-handler-class-requires
+handler-class-requires c κs = search needs
+
+range-fits-requires : tie.Need-range-fits-requires
+range-fits-requires c κs = search needs
+
+returns : tie.Need-returns
+returns c = cc
+
+pub handler-fits-spec : {M : Type 1} → statement M
+handler-fits-spec =
+    tie.close
+    (tie.spec
+    code-length-requires
+    class-count-requires
+    handler-from-requires
+    handler-to-requires
+    handler-target-requires
+    handler-class-requires
+    range-fits-requires
+    returns)

@@ -1,0 +1,37 @@
+-- `values::limits_of` meets its contract: each field is the count of its thing. Assumes nothing.
+use borrow.Author.Needs.{needs}
+use Rattle.values.proofs.limits_of.Statement.{statement}
+use Rattle.values.proofs.limits_of.Tie as tie
+
+registers-requires : tie.Need-registers-requires
+registers-requires c κs = search needs
+
+code-length-requires : tie.Need-code-length-requires
+code-length-requires c κs = search needs
+
+class-count-requires : tie.Need-class-count-requires
+class-count-requires c κs = search needs
+
+field-count-requires : tie.Need-field-count-requires
+field-count-requires c κs = search needs
+
+static-count-requires : tie.Need-static-count-requires
+static-count-requires c κs = search needs
+
+method-count-requires : tie.Need-method-count-requires
+method-count-requires c κs = search needs
+
+returns : tie.Need-returns
+returns c = cc
+
+pub limits-of-spec : {M : Type 1} → statement M
+limits-of-spec =
+    tie.close
+    (tie.spec
+    registers-requires
+    code-length-requires
+    class-count-requires
+    field-count-requires
+    static-count-requires
+    method-count-requires
+    returns)
