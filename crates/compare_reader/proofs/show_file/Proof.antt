@@ -11,10 +11,10 @@ abbrev μ-loop : tie.MeasureT-loop
 μ-loop path fd left₀ left = left
 
 open-read-requires : tie.Need-open-read-requires Inv-loop μ-loop
-open-read-requires c κs = search needs
+open-read-requires c κs = tt
 
 fail-requires : tie.Need-fail-requires Inv-loop μ-loop
-fail-requires c κs = search needs
+fail-requires c κs = tt
 
 returns : tie.Need-returns Inv-loop μ-loop
 returns c = search needs
@@ -23,7 +23,7 @@ loop-holds : tie.Need-loop-holds Inv-loop μ-loop
 loop-holds c = search needs
 
 show-next-requires : tie.Need-show-next-requires Inv-loop μ-loop
-show-next-requires c κs = search needs
+show-next-requires c κs = tt
 
 sub-left : tie.Need-sub-left Inv-loop μ-loop
 sub-left c = search needs
@@ -41,7 +41,7 @@ loop-again-2 : tie.Need-loop-again-2 Inv-loop μ-loop
 loop-again-2 c = search needs
 
 close-requires : tie.Need-close-requires Inv-loop μ-loop
-close-requires c κs = search needs
+close-requires c κs = tt
 
 returns-2 : tie.Need-returns-2 Inv-loop μ-loop
 returns-2 c = search needs

@@ -15,7 +15,7 @@ slice-aggregate-show-text : tie.Need-slice-aggregate-show-text
 slice-aggregate-show-text c = sym (length-take-le (c .before .before .before .args .size) (c .before .before .before .args .buffer .now) (c .before .if1 .left))
 
 show-text-requires : tie.Need-show-text-requires
-show-text-requires c κs = search needs
+show-text-requires c κs = tt
 
 same-length : tie.Need-same-length
 same-length c = search needs

@@ -4,10 +4,10 @@ use Rattle.frame.proofs.may_end.Statement.{statement}
 use Rattle.frame.proofs.may_end.Tie as tie
 
 both-requires : tie.Need-both-requires
-both-requires c κs = search needs
+both-requires c κs = tt
 
 both-requires-2 : tie.Need-both-requires-2
-both-requires-2 c κs = search needs
+both-requires-2 c κs = tt
 
 returns : tie.Need-returns
 returns c = cc

@@ -4,76 +4,76 @@ use Rattle.frame.proofs.may_stand.Statement.{statement}
 use Rattle.frame.proofs.may_stand.Tie as tie
 
 enum-told : tie.Need-enum-told
-enum-told c = search needs
+enum-told c = c .match .keys1
 
 both-requires : tie.Need-both-requires
-both-requires c κs = search needs
+both-requires c κs = tt
 
 both-requires-2 : tie.Need-both-requires-2
-both-requires-2 c κs = search needs
+both-requires-2 c κs = tt
 
 both-requires-3 : tie.Need-both-requires-3
-both-requires-3 c κs = search needs
+both-requires-3 c κs = tt
 
 enum-told-2 : tie.Need-enum-told-2
-enum-told-2 c = search needs
+enum-told-2 c = c .match .keys2
 
 both-requires-4 : tie.Need-both-requires-4
-both-requires-4 c κs = search needs
+both-requires-4 c κs = tt
 
 both-requires-5 : tie.Need-both-requires-5
-both-requires-5 c κs = search needs
+both-requires-5 c κs = tt
 
 both-requires-6 : tie.Need-both-requires-6
-both-requires-6 c κs = search needs
+both-requires-6 c κs = tt
 
 enum-told-3 : tie.Need-enum-told-3
-enum-told-3 c = search needs
+enum-told-3 c = c .match .keys3
 
 both-requires-7 : tie.Need-both-requires-7
-both-requires-7 c κs = search needs
+both-requires-7 c κs = tt
 
 both-requires-8 : tie.Need-both-requires-8
-both-requires-8 c κs = search needs
+both-requires-8 c κs = tt
 
 enum-told-4 : tie.Need-enum-told-4
-enum-told-4 c = search needs
+enum-told-4 c = c .match .keys4
 
 implies-requires : tie.Need-implies-requires
-implies-requires c κs = search needs
+implies-requires c κs = tt
 
 both-requires-9 : tie.Need-both-requires-9
-both-requires-9 c κs = search needs
+both-requires-9 c κs = tt
 
 both-requires-10 : tie.Need-both-requires-10
-both-requires-10 c κs = search needs
+both-requires-10 c κs = tt
 
 enum-told-5 : tie.Need-enum-told-5
-enum-told-5 c = search needs
+enum-told-5 c = c .match .keys5
 
 both-requires-11 : tie.Need-both-requires-11
-both-requires-11 c κs = search needs
+both-requires-11 c κs = tt
 
 both-requires-12 : tie.Need-both-requires-12
-both-requires-12 c κs = search needs
+both-requires-12 c κs = tt
 
 both-requires-13 : tie.Need-both-requires-13
-both-requires-13 c κs = search needs
+both-requires-13 c κs = tt
 
 enum-told-6 : tie.Need-enum-told-6
-enum-told-6 c = search needs
+enum-told-6 c = c .match .keys6
 
 both-requires-14 : tie.Need-both-requires-14
-both-requires-14 c κs = search needs
+both-requires-14 c κs = tt
 
 both-requires-15 : tie.Need-both-requires-15
-both-requires-15 c κs = search needs
+both-requires-15 c κs = tt
 
 both-requires-16 : tie.Need-both-requires-16
-both-requires-16 c κs = search needs
+both-requires-16 c κs = tt
 
 enum-told-7 : tie.Need-enum-told-7
-enum-told-7 c = search needs
+enum-told-7 c = c .match .keys7
 
 returns : tie.Need-returns
 returns c = rw (c .before .before .before .before .before .before .before .enum-told .given .1) (cc)

@@ -5,10 +5,10 @@ use Rattle.frame.proofs.place_of.Statement.{statement}
 use Rattle.frame.proofs.place_of.Tie as tie
 
 before-requires : tie.Need-before-requires
-before-requires c κs = search needs
+before-requires c κs = tt
 
 enum-told : tie.Need-enum-told
-enum-told c = search needs
+enum-told c = c .match .keys1
 
 add-t5 : tie.Need-add-t5
 add-t5 c = omega (arith, rw (c .before .enum-told .given .1) at (c .before .before .before .before .pre), c .before .before .before .before2 .ensures)
@@ -17,7 +17,7 @@ add-t6 : tie.Need-add-t6
 add-t6 c = omega (arith, rw (c .before .before .enum-told .given .1) at (c .before .before .before .before .before .pre), c .before .before .before .before .before2 .ensures)
 
 enum-told-2 : tie.Need-enum-told-2
-enum-told-2 c = search needs
+enum-told-2 c = c .match .keys2
 
 add-t7 : tie.Need-add-t7
 add-t7 c = omega (arith, rw (c .before .enum-told2 .given .1) at (c .before .before .before .before .pre), c .before .before .before .before2 .ensures)
@@ -26,13 +26,13 @@ add-t8 : tie.Need-add-t8
 add-t8 c = omega (arith, rw (c .before .before .enum-told2 .given .1) at (c .before .before .before .before .before .pre), c .before .before .before .before .before2 .ensures)
 
 enum-told-3 : tie.Need-enum-told-3
-enum-told-3 c = search needs
+enum-told-3 c = c .match .keys3
 
 add-t9 : tie.Need-add-t9
 add-t9 c = omega (arith, rw (c .before .enum-told3 .given .1) at (c .before .before .before .before .pre), c .before .before .before .before2 .ensures)
 
 enum-told-4 : tie.Need-enum-told-4
-enum-told-4 c = search needs
+enum-told-4 c = c .match .keys4
 
 mul-t10 : tie.Need-mul-t10
 mul-t10 c = omega (arith, rw (c .before .enum-told4 .given .1) at (c .before .before .before .before .pre), c .before .before .before .before2 .ensures)
@@ -44,7 +44,7 @@ add-t12 : tie.Need-add-t12
 add-t12 c = omega (arith, rw (c .before .before .enum-told4 .given .1) at (c .before .before .before .before .before .pre), c .before .before .before .before .before2 .ensures)
 
 enum-told-5 : tie.Need-enum-told-5
-enum-told-5 c = search needs
+enum-told-5 c = c .match .keys5
 
 mul-t13 : tie.Need-mul-t13
 mul-t13 c = omega (arith, rw (c .enum-told5 .given .1) at (c .before .before .before .pre), c .before .before .before2 .ensures)
@@ -65,7 +65,7 @@ add-t18 : tie.Need-add-t18
 add-t18 c = omega (arith, rw (c .before .before .enum-told5 .given .1) at (c .before .before .before .before .before .pre), c .before .before .before .before .before2 .ensures)
 
 enum-told-6 : tie.Need-enum-told-6
-enum-told-6 c = search needs
+enum-told-6 c = c .match .keys6
 
 mul-t19 : tie.Need-mul-t19
 mul-t19 c = omega (arith, rw (c .enum-told6 .given .1) at (c .before .before .before .pre), c .before .before .before2 .ensures)
@@ -86,7 +86,7 @@ add-t24 : tie.Need-add-t24
 add-t24 c = omega (arith, rw (c .before .before .enum-told6 .given .1) at (c .before .before .before .before .before .pre), c .before .before .before .before .before2 .ensures)
 
 enum-told-7 : tie.Need-enum-told-7
-enum-told-7 c = search needs
+enum-told-7 c = c .match .keys7
 
 returns : tie.Need-returns
 returns c = rw (c .before .before .enum-told .given .1)

@@ -8,7 +8,7 @@ use Rattle.frame.proofs.take.Statement.{statement}
 use Rattle.frame.proofs.take.Tie as tie
 
 may-stand-requires : tie.Need-may-stand-requires
-may-stand-requires c κs = search needs
+may-stand-requires c κs = tt
 
 returns : tie.Need-returns
 returns c = let e = sym (c .before .may-stand .ensures) ∙ not-true _ (c .if1 .taken) in (rw e, rw e)
@@ -17,7 +17,7 @@ place-of-requires : tie.Need-place-of-requires
 place-of-requires c κs = holds (mayStand (c .before .before .args .n) (c .before .before .args .k)) (sym (c .before .may-stand .ensures) ∙ not-false _ (c .if1 .left))
 
 store-requires : tie.Need-store-requires
-store-requires c κs = search needs
+store-requires c κs = tt
 
 counted-requires : tie.Need-counted-requires
 counted-requires c κs = holds (mayStand (c .before .before .before .before .before .args .n) (c .before .before .before .before .before .args .k)) (sym (c .before .before .before .before .may-stand .ensures) ∙ not-false _ (c .before .before .before .if1 .left))

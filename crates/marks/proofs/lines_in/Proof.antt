@@ -4,40 +4,40 @@ use Rattle.marks.proofs.lines_in.Statement.{statement}
 use Rattle.marks.proofs.lines_in.Tie as tie
 
 enum-told : tie.Need-enum-told
-enum-told c = search needs
+enum-told c = c .match .keys1
 
 class-count-requires : tie.Need-class-count-requires
-class-count-requires c κs = search needs
+class-count-requires c κs = tt
 
 enum-told-2 : tie.Need-enum-told-2
-enum-told-2 c = search needs
+enum-told-2 c = c .match .keys2
 
 field-count-requires : tie.Need-field-count-requires
-field-count-requires c κs = search needs
+field-count-requires c κs = tt
 
 enum-told-3 : tie.Need-enum-told-3
-enum-told-3 c = search needs
+enum-told-3 c = c .match .keys3
 
 static-count-requires : tie.Need-static-count-requires
-static-count-requires c κs = search needs
+static-count-requires c κs = tt
 
 enum-told-4 : tie.Need-enum-told-4
-enum-told-4 c = search needs
+enum-told-4 c = c .match .keys4
 
 enum-told-5 : tie.Need-enum-told-5
-enum-told-5 c = search needs
+enum-told-5 c = c .match .keys5
 
 handler-count-requires : tie.Need-handler-count-requires
-handler-count-requires c κs = search needs
+handler-count-requires c κs = tt
 
 enum-told-6 : tie.Need-enum-told-6
-enum-told-6 c = search needs
+enum-told-6 c = c .match .keys6
 
 code-length-requires : tie.Need-code-length-requires
-code-length-requires c κs = search needs
+code-length-requires c κs = tt
 
 enum-told-7 : tie.Need-enum-told-7
-enum-told-7 c = search needs
+enum-told-7 c = c .match .keys7
 
 returns : tie.Need-returns
 returns c = rw (c .before .enum-told .given .1) (cc)

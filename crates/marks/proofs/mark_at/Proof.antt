@@ -5,52 +5,52 @@ use Rattle.marks.proofs.mark_at.Statement.{statement}
 use Rattle.marks.proofs.mark_at.Tie as tie
 
 enum-told : tie.Need-enum-told
-enum-told c = search needs
+enum-told c = c .match .keys1
 
 class-fits-requires : tie.Need-class-fits-requires
-class-fits-requires c κs = search needs
+class-fits-requires c κs = tt
 
 value-mark-requires : tie.Need-value-mark-requires
-value-mark-requires c κs = search needs
+value-mark-requires c κs = tt
 
 enum-told-2 : tie.Need-enum-told-2
-enum-told-2 c = search needs
+enum-told-2 c = c .match .keys2
 
 field-fits-requires : tie.Need-field-fits-requires
-field-fits-requires c κs = search needs
+field-fits-requires c κs = tt
 
 value-mark-requires-2 : tie.Need-value-mark-requires-2
-value-mark-requires-2 c κs = search needs
+value-mark-requires-2 c κs = tt
 
 enum-told-3 : tie.Need-enum-told-3
-enum-told-3 c = search needs
+enum-told-3 c = c .match .keys3
 
 enum-told-4 : tie.Need-enum-told-4
-enum-told-4 c = search needs
+enum-told-4 c = c .match .keys4
 
 method-fits-requires : tie.Need-method-fits-requires
-method-fits-requires c κs = search needs
+method-fits-requires c κs = tt
 
 value-mark-requires-3 : tie.Need-value-mark-requires-3
-value-mark-requires-3 c κs = search needs
+value-mark-requires-3 c κs = tt
 
 enum-told-5 : tie.Need-enum-told-5
-enum-told-5 c = search needs
+enum-told-5 c = c .match .keys5
 
 handler-fits-requires : tie.Need-handler-fits-requires
-handler-fits-requires c κs = search needs
+handler-fits-requires c κs = tt
 
 value-mark-requires-4 : tie.Need-value-mark-requires-4
-value-mark-requires-4 c κs = search needs
+value-mark-requires-4 c κs = tt
 
 enum-told-6 : tie.Need-enum-told-6
-enum-told-6 c = search needs
+enum-told-6 c = c .match .keys6
 
 instruction-mark-requires : tie.Need-instruction-mark-requires
-instruction-mark-requires c κs = search needs
+instruction-mark-requires c κs = tt
 
 enum-told-7 : tie.Need-enum-told-7
-enum-told-7 c = search needs
+enum-told-7 c = c .match .keys7
 
 returns : tie.Need-returns
 unfolding valueMark

@@ -19,7 +19,7 @@ abbrev μ-loop : tie.MeasureT-loop
 μ-loop t k m line n i₀ i = n - i
 
 lines-in-requires : tie.Need-lines-in-requires Inv-loop μ-loop
-lines-in-requires c κs = search needs
+lines-in-requires c κs = tt
 
 loop-holds : tie.Need-loop-holds Inv-loop μ-loop
 unfolding marksIn
@@ -29,7 +29,7 @@ loop-holds c =
     (omega arith, rw (c .lines-in .ensures) (mark-start (linesIn p (a .k) (a .m)) (markAt p (a .k) (a .m)) (a .line)))
 
 mark-at-requires : tie.Need-mark-at-requires Inv-loop μ-loop
-mark-at-requires c κs = search needs
+mark-at-requires c κs = tt
 
 add-t9 : tie.Need-add-t9 Inv-loop μ-loop
 add-t9 c =

@@ -24,7 +24,7 @@ abbrev μ-loop : tie.MeasureT-loop
 μ-loop t line n m₀ at₀ m at = n - m
 
 method-count-requires : tie.Need-method-count-requires Inv-loop μ-loop
-method-count-requires c κs = search needs
+method-count-requires c κs = tt
 
 loop-holds : tie.Need-loop-holds Inv-loop μ-loop
 loop-holds c =

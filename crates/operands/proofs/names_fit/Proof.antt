@@ -4,28 +4,28 @@ use Rattle.operands.proofs.names_fit.Statement.{statement}
 use Rattle.operands.proofs.names_fit.Tie as tie
 
 enum-told : tie.Need-enum-told
-enum-told c = search needs
+enum-told c = c .match .keys1
 
 enum-known-i : tie.Need-enum-known-i
-enum-known-i c = search needs
+enum-known-i c = c .match .keys2
 
 two-requires : tie.Need-two-requires
-two-requires c κs = search needs
+two-requires c κs = tt
 
 enum-known-i-2 : tie.Need-enum-known-i-2
-enum-known-i-2 c = search needs
+enum-known-i-2 c = c .match .keys3
 
 cast-result : tie.Need-cast-result
 cast-result c = search needs
 
 enum-known-i-3 : tie.Need-enum-known-i-3
-enum-known-i-3 c = search needs
+enum-known-i-3 c = c .match .keys4
 
 cast-result-2 : tie.Need-cast-result-2
 cast-result-2 c = search needs
 
 enum-known-i-4 : tie.Need-enum-known-i-4
-enum-known-i-4 c = search needs
+enum-known-i-4 c = c .match .keys5
 
 cast-both : tie.Need-cast-both
 cast-both c = search needs
@@ -37,13 +37,13 @@ cast-both-3 : tie.Need-cast-both-3
 cast-both-3 c = search needs
 
 both-requires : tie.Need-both-requires
-both-requires c κs = search needs
+both-requires c κs = tt
 
 both-requires-2 : tie.Need-both-requires-2
-both-requires-2 c κs = search needs
+both-requires-2 c κs = tt
 
 enum-known-i-5 : tie.Need-enum-known-i-5
-enum-known-i-5 c = search needs
+enum-known-i-5 c = c .match .keys6
 
 cast-both-4 : tie.Need-cast-both-4
 cast-both-4 c = search needs
@@ -52,109 +52,109 @@ cast-both-5 : tie.Need-cast-both-5
 cast-both-5 c = search needs
 
 both-requires-3 : tie.Need-both-requires-3
-both-requires-3 c κs = search needs
+both-requires-3 c κs = tt
 
 enum-known-i-6 : tie.Need-enum-known-i-6
-enum-known-i-6 c = search needs
+enum-known-i-6 c = c .match .keys7
 
 three-requires : tie.Need-three-requires
-three-requires c κs = search needs
+three-requires c κs = tt
 
 enum-known-i-7 : tie.Need-enum-known-i-7
-enum-known-i-7 c = search needs
+enum-known-i-7 c = c .match .keys8
 
 two-requires-2 : tie.Need-two-requires-2
-two-requires-2 c κs = search needs
+two-requires-2 c κs = tt
 
 enum-known-i-8 : tie.Need-enum-known-i-8
-enum-known-i-8 c = search needs
+enum-known-i-8 c = c .match .keys9
 
 two-requires-3 : tie.Need-two-requires-3
-two-requires-3 c κs = search needs
+two-requires-3 c κs = tt
 
 enum-known-i-9 : tie.Need-enum-known-i-9
-enum-known-i-9 c = search needs
+enum-known-i-9 c = c .match .keys10
 
 three-requires-2 : tie.Need-three-requires-2
-three-requires-2 c κs = search needs
+three-requires-2 c κs = tt
 
 enum-known-i-10 : tie.Need-enum-known-i-10
-enum-known-i-10 c = search needs
+enum-known-i-10 c = c .match .keys11
 
 three-requires-3 : tie.Need-three-requires-3
-three-requires-3 c κs = search needs
+three-requires-3 c κs = tt
 
 enum-known-i-11 : tie.Need-enum-known-i-11
-enum-known-i-11 c = search needs
+enum-known-i-11 c = c .match .keys12
 
 two-requires-4 : tie.Need-two-requires-4
-two-requires-4 c κs = search needs
+two-requires-4 c κs = tt
 
 enum-known-i-12 : tie.Need-enum-known-i-12
-enum-known-i-12 c = search needs
+enum-known-i-12 c = c .match .keys13
 
 two-requires-5 : tie.Need-two-requires-5
-two-requires-5 c κs = search needs
+two-requires-5 c κs = tt
 
 enum-known-i-13 : tie.Need-enum-known-i-13
-enum-known-i-13 c = search needs
+enum-known-i-13 c = c .match .keys14
 
 arguments-fit-requires : tie.Need-arguments-fit-requires
-arguments-fit-requires c κs = search needs
+arguments-fit-requires c κs = tt
 
 both-requires-4 : tie.Need-both-requires-4
-both-requires-4 c κs = search needs
+both-requires-4 c κs = tt
 
 enum-known-i-14 : tie.Need-enum-known-i-14
-enum-known-i-14 c = search needs
+enum-known-i-14 c = c .match .keys15
 
 cast-both-6 : tie.Need-cast-both-6
 cast-both-6 c = search needs
 
 arguments-fit-requires-2 : tie.Need-arguments-fit-requires-2
-arguments-fit-requires-2 c κs = search needs
+arguments-fit-requires-2 c κs = tt
 
 both-requires-5 : tie.Need-both-requires-5
-both-requires-5 c κs = search needs
+both-requires-5 c κs = tt
 
 enum-known-i-15 : tie.Need-enum-known-i-15
-enum-known-i-15 c = search needs
+enum-known-i-15 c = c .match .keys16
 
 cast-result-3 : tie.Need-cast-result-3
 cast-result-3 c = search needs
 
 enum-known-i-16 : tie.Need-enum-known-i-16
-enum-known-i-16 c = search needs
+enum-known-i-16 c = c .match .keys17
 
 cast-result-4 : tie.Need-cast-result-4
 cast-result-4 c = search needs
 
 enum-known-i-17 : tie.Need-enum-known-i-17
-enum-known-i-17 c = search needs
+enum-known-i-17 c = c .match .keys18
 
 cast-result-5 : tie.Need-cast-result-5
 cast-result-5 c = search needs
 
 enum-told-2 : tie.Need-enum-told-2
-enum-told-2 c = search needs
+enum-told-2 c = c .match .keys19
 
 enum-known-i-18 : tie.Need-enum-known-i-18
-enum-known-i-18 c = search needs
+enum-known-i-18 c = c .match .keys20
 
 cast-result-6 : tie.Need-cast-result-6
 cast-result-6 c = search needs
 
 enum-known-i-19 : tie.Need-enum-known-i-19
-enum-known-i-19 c = search needs
+enum-known-i-19 c = c .match .keys21
 
 three-requires-4 : tie.Need-three-requires-4
-three-requires-4 c κs = search needs
+three-requires-4 c κs = tt
 
 enum-known-i-20 : tie.Need-enum-known-i-20
-enum-known-i-20 c = search needs
+enum-known-i-20 c = c .match .keys22
 
 two-requires-6 : tie.Need-two-requires-6
-two-requires-6 c κs = search needs
+two-requires-6 c κs = tt
 
 returns : tie.Need-returns
 returns c = rw (c .enum-told .given .1)

@@ -4,10 +4,10 @@ use Rattle.operands.proofs.three.Statement.{statement}
 use Rattle.operands.proofs.three.Tie as tie
 
 two-requires : tie.Need-two-requires
-two-requires c κs = search needs
+two-requires c κs = tt
 
 both-requires : tie.Need-both-requires
-both-requires c κs = search needs
+both-requires c κs = tt
 
 returns : tie.Need-returns
 returns c = rw (c .both .ensures, c .before .two .ensures)

@@ -11,7 +11,7 @@ use Rattle.program.proofs.handler_count.Statement.{statement}
 use Rattle.program.proofs.handler_count.Tie as tie
 
 method-count-requires : tie.Need-method-count-requires
-method-count-requires c κs = search needs
+method-count-requires c κs = tt
 
 mul-word : tie.Need-mul-word
 mul-word c = omega (arith, methods-limit (c .before .before .args .t .now))
@@ -20,10 +20,10 @@ add-word : tie.Need-add-word
 add-word c = omega (arith, methods-limit (c .before .before .args .t .now))
 
 word-requires : tie.Need-word-requires
-word-requires c κs = search needs
+word-requires c κs = tt
 
 at-most-requires : tie.Need-at-most-requires
-at-most-requires c κs = search needs
+at-most-requires c κs = tt
 
 returns : tie.Need-returns
 returns c =

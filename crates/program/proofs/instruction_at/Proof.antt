@@ -6,10 +6,10 @@ use Rattle.program.proofs.instruction_at.Statement.{statement}
 use Rattle.program.proofs.instruction_at.Tie as tie
 
 code-word-requires : tie.Need-code-word-requires
-code-word-requires c κs = search needs
+code-word-requires c κs = tt
 
 decode-requires : tie.Need-decode-requires
-decode-requires c κs = search needs
+decode-requires c κs = tt
 
 returns : tie.Need-returns
 returns c = c .decode .ensures ∙ ap instructionOf (c .before .code-word .ensures)

@@ -6,7 +6,7 @@ use Rattle.program.proofs.method_kind.Statement.{statement}
 use Rattle.program.proofs.method_kind.Tie as tie
 
 header-requires : tie.Need-header-requires
-header-requires c κs = search needs
+header-requires c κs = tt
 
 returns : tie.Need-returns
 returns c = ap (λ (n : ℕ). n / 65536 % 256) (c .header .ensures)

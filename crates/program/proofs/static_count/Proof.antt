@@ -7,10 +7,10 @@ use Rattle.program.proofs.static_count.Statement.{statement}
 use Rattle.program.proofs.static_count.Tie as tie
 
 word-requires : tie.Need-word-requires
-word-requires c κs = search needs
+word-requires c κs = tt
 
 at-most-requires : tie.Need-at-most-requires
-at-most-requires c κs = search needs
+at-most-requires c κs = tt
 
 returns : tie.Need-returns
 returns c =

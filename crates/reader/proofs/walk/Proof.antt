@@ -22,7 +22,7 @@ line-at-requires : tie.Need-line-at-requires Inv-loop μ-loop
 line-at-requires c κs = tt
 
 enum-told : tie.Need-enum-told Inv-loop μ-loop
-enum-told c = search needs
+enum-told c = c .match .keys1
 
 may-end-requires : tie.Need-may-end-requires Inv-loop μ-loop
 may-end-requires c κs = tt
@@ -34,7 +34,7 @@ returns-2 : tie.Need-returns-2 Inv-loop μ-loop
 returns-2 c = at-missing (c .before .before .before .before .before .before .before .args .text .now) (c .before .before .before .before .before .loop .t) (c .before .before .before .before .before .loop .at) (c .before .before .before .before .before .loop .line) (c .before .before .before .before .before .loop .n) (c .before .before .before .before .before .loop .inv) (sym (c .before .before .before .before .line-at .ensures) ∙ c .before .before .enum-told .given .1) (sym (c .before .may-end .ensures) ∙ c .if1 .left)
 
 enum-told-2 : tie.Need-enum-told-2 Inv-loop μ-loop
-enum-told-2 c = search needs
+enum-told-2 c = c .match .keys2
 
 returns-3 : tie.Need-returns-3 Inv-loop μ-loop
 returns-3 c = at-broken (c .before .before .before .before .before .args .text .now) (c .before .before .before .loop .t) (c .before .before .before .loop .at) (c .before .before .before .loop .line) (c .before .before .before .loop .n) (c .before .before .before .loop .inv) (sym (c .before .before .line-at .ensures) ∙ c .enum-told2 .given .1)

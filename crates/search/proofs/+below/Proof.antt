@@ -39,7 +39,7 @@ below-superclass-requires : (t : ℕ) → below-lts.Need-superclass-requires (
   below-below t,
   below.Post,
 ) (below-at t) below.Post
-below-superclass-requires t c κs = search needs
+below-superclass-requires t c κs = tt
 
 below-below-requires : (t : ℕ) → below-lts.Need-below-requires (
   superclass-reads.Asked,

@@ -42,7 +42,7 @@ virtual-callee-method-in-requires : (t : ℕ) → virtual-callee-lts.Need-method
   virtual-callee-below t,
   virtual-callee.Post,
 ) (virtual-callee-at t) virtual-callee.Post
-virtual-callee-method-in-requires t c κs = search needs
+virtual-callee-method-in-requires t c κs = tt
 
 virtual-callee-enum-known-m : (t : ℕ) → virtual-callee-lts.Need-enum-known-m (
   method-in-reads.Asked,
@@ -62,7 +62,7 @@ virtual-callee-enum-told : (t : ℕ) → virtual-callee-lts.Need-enum-told (
   virtual-callee-below t,
   virtual-callee.Post,
 ) (virtual-callee-at t) virtual-callee.Post
-virtual-callee-enum-told t c = search needs
+virtual-callee-enum-told t c = c .match .keys2
 
 virtual-callee-superclass-requires : (t : ℕ) → virtual-callee-lts.Need-superclass-requires (
   method-in-reads.Asked,
@@ -72,7 +72,7 @@ virtual-callee-superclass-requires : (t : ℕ) → virtual-callee-lts.Need-super
   virtual-callee-below t,
   virtual-callee.Post,
 ) (virtual-callee-at t) virtual-callee.Post
-virtual-callee-superclass-requires t c κs = search needs
+virtual-callee-superclass-requires t c κs = tt
 
 virtual-callee-virtual-callee-requires : (t : ℕ) → virtual-callee-lts.Need-virtual-callee-requires (
   method-in-reads.Asked,

@@ -11,7 +11,7 @@ use Rattle.search.proofs.catches.Statement.{statement}
 use Rattle.search.proofs.catches.Tie as tie
 
 handler-from-requires : tie.Need-handler-from-requires
-handler-from-requires c κs = search needs
+handler-from-requires c κs = tt
 
 returns : tie.Need-returns
 returns c =
@@ -21,13 +21,13 @@ returns c =
     sym (starts-later p (a .m) (a .pc) (a .c) (a .h) l)
 
 handler-to-requires : tie.Need-handler-to-requires
-handler-to-requires c κs = search needs
+handler-to-requires c κs = tt
 
 handler-class-requires : tie.Need-handler-class-requires
-handler-class-requires c κs = search needs
+handler-class-requires c κs = tt
 
 below-requires : tie.Need-below-requires
-below-requires c κs = search needs
+below-requires c κs = tt
 
 returns-2 : tie.Need-returns-2
 returns-2 c =

@@ -21,7 +21,7 @@ abbrev μ-loop : tie.MeasureT-loop
 μ-loop t m pc c n left₀ left = left
 
 handler-count-requires : tie.Need-handler-count-requires Inv-loop μ-loop
-handler-count-requires c κs = search needs
+handler-count-requires c κs = tt
 
 loop-holds : tie.Need-loop-holds Inv-loop μ-loop
 loop-holds c = (omega arith, λ k l. absurd (omega arith))
@@ -30,7 +30,7 @@ sub-h : tie.Need-sub-h Inv-loop μ-loop
 sub-h c = omega arith
 
 catches-requires : tie.Need-catches-requires Inv-loop μ-loop
-catches-requires c κs = search needs
+catches-requires c κs = tt
 
 returns : tie.Need-returns Inv-loop μ-loop
 returns c =

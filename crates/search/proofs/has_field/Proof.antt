@@ -11,13 +11,13 @@ use Rattle.search.proofs.has_field.Statement.{statement}
 use Rattle.search.proofs.has_field.Tie as tie
 
 field-count-requires : tie.Need-field-count-requires
-field-count-requires c κs = search needs
+field-count-requires c κs = tt
 
 field-class-requires : tie.Need-field-class-requires
-field-class-requires c κs = search needs
+field-class-requires c κs = tt
 
 below-requires : tie.Need-below-requires
-below-requires c κs = search needs
+below-requires c κs = tt
 
 returns : tie.Need-returns
 returns c =

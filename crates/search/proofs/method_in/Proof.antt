@@ -20,13 +20,13 @@ abbrev μ-loop : tie.MeasureT-loop
 μ-loop t c name count n m₀ m = n - m
 
 method-count-requires : tie.Need-method-count-requires Inv-loop μ-loop
-method-count-requires c κs = search needs
+method-count-requires c κs = tt
 
 loop-holds : tie.Need-loop-holds Inv-loop μ-loop
 loop-holds c = below-none _
 
 answers-requires : tie.Need-answers-requires Inv-loop μ-loop
-answers-requires c κs = search needs
+answers-requires c κs = tt
 
 returns : tie.Need-returns Inv-loop μ-loop
 returns c =

@@ -23,7 +23,7 @@ room c =
     rw (c .before .loop .inv .1) (number-room (a .text .now) (a .at) (c .before .loop .i) (omega arith))
 
 width-requires : tie.Need-width-requires Inv-loop μ-loop
-width-requires c κs = search needs
+width-requires c κs = tt
 
 loop-holds : tie.Need-loop-holds Inv-loop μ-loop
 unfolding numberFrom
@@ -39,7 +39,7 @@ shared-slice-read-digit : tie.Need-shared-slice-read-digit Inv-loop μ-loop
 shared-slice-read-digit c = omega arith
 
 digit-requires : tie.Need-digit-requires Inv-loop μ-loop
-digit-requires c κs = search needs
+digit-requires c κs = tt
 
 cast-value : tie.Need-cast-value Inv-loop μ-loop
 cast-value c = omega arith

@@ -5,19 +5,19 @@ use Rattle.values.proofs.alike.Statement.{statement}
 use Rattle.values.proofs.alike.Tie as tie
 
 method-class-requires : tie.Need-method-class-requires
-method-class-requires c κs = search needs
+method-class-requires c κs = tt
 
 method-class-requires-2 : tie.Need-method-class-requires-2
-method-class-requires-2 c κs = search needs
+method-class-requires-2 c κs = tt
 
 method-name-requires : tie.Need-method-name-requires
-method-name-requires c κs = search needs
+method-name-requires c κs = tt
 
 method-name-requires-2 : tie.Need-method-name-requires-2
-method-name-requires-2 c κs = search needs
+method-name-requires-2 c κs = tt
 
 both-requires : tie.Need-both-requires
-both-requires c κs = search needs
+both-requires c κs = tt
 
 returns : tie.Need-returns
 unfolding alike

@@ -45,7 +45,7 @@ others p (InstanceOf a b c) k = refl
 others p (CheckCast a b) k = refl
 
 enum-known-i : tie.Need-enum-known-i
-enum-known-i c = search needs
+enum-known-i c = c .match .keys1
 
 returns : tie.Need-returns
 returns c = others _ (c .before .args .i) (c .match .keys2)
@@ -57,19 +57,19 @@ cast-b : tie.Need-cast-b
 cast-b c = search needs
 
 method-kind-requires : tie.Need-method-kind-requires
-method-kind-requires c κs = search needs
+method-kind-requires c κs = tt
 
 arguments-requires : tie.Need-arguments-requires
-arguments-requires c κs = search needs
+arguments-requires c κs = tt
 
 implies-requires : tie.Need-implies-requires
-implies-requires c κs = search needs
+implies-requires c κs = tt
 
 both-requires : tie.Need-both-requires
-both-requires c κs = search needs
+both-requires c κs = tt
 
 both-requires-2 : tie.Need-both-requires-2
-both-requires-2 c κs = search needs
+both-requires-2 c κs = tt
 
 returns-2 : tie.Need-returns-2
 returns-2 c =

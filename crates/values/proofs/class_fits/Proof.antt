@@ -4,10 +4,10 @@ use Rattle.values.proofs.class_fits.Statement.{statement}
 use Rattle.values.proofs.class_fits.Tie as tie
 
 superclass-requires : tie.Need-superclass-requires
-superclass-requires c κs = search needs
+superclass-requires c κs = tt
 
 super-fits-requires : tie.Need-super-fits-requires
-super-fits-requires c κs = search needs
+super-fits-requires c κs = tt
 
 returns : tie.Need-returns
 returns c = cc

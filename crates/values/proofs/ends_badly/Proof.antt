@@ -10,19 +10,19 @@ use Rattle.values.proofs.ends_badly.Statement.{statement}
 use Rattle.values.proofs.ends_badly.Tie as tie
 
 code-length-requires : tie.Need-code-length-requires
-code-length-requires c κs = search needs
+code-length-requires c κs = tt
 
 add-both : tie.Need-add-both
 add-both c = search needs
 
 instruction-at-requires : tie.Need-instruction-at-requires
-instruction-at-requires c κs = search needs
+instruction-at-requires c κs = tt
 
 falls-through-requires : tie.Need-falls-through-requires
-falls-through-requires c κs = search needs
+falls-through-requires c κs = tt
 
 both-requires : tie.Need-both-requires
-both-requires c κs = search needs
+both-requires c κs = tt
 
 returns : tie.Need-returns
 returns c =

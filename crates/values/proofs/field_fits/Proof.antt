@@ -4,10 +4,10 @@ use Rattle.values.proofs.field_fits.Statement.{statement}
 use Rattle.values.proofs.field_fits.Tie as tie
 
 field-class-requires : tie.Need-field-class-requires
-field-class-requires c κs = search needs
+field-class-requires c κs = tt
 
 class-count-requires : tie.Need-class-count-requires
-class-count-requires c κs = search needs
+class-count-requires c κs = tt
 
 returns : tie.Need-returns
 returns c = cc

@@ -4,25 +4,25 @@ use Rattle.values.proofs.handler_fits.Statement.{statement}
 use Rattle.values.proofs.handler_fits.Tie as tie
 
 code-length-requires : tie.Need-code-length-requires
-code-length-requires c κs = search needs
+code-length-requires c κs = tt
 
 class-count-requires : tie.Need-class-count-requires
-class-count-requires c κs = search needs
+class-count-requires c κs = tt
 
 handler-from-requires : tie.Need-handler-from-requires
-handler-from-requires c κs = search needs
+handler-from-requires c κs = tt
 
 handler-to-requires : tie.Need-handler-to-requires
-handler-to-requires c κs = search needs
+handler-to-requires c κs = tt
 
 handler-target-requires : tie.Need-handler-target-requires
-handler-target-requires c κs = search needs
+handler-target-requires c κs = tt
 
 handler-class-requires : tie.Need-handler-class-requires
-handler-class-requires c κs = search needs
+handler-class-requires c κs = tt
 
 range-fits-requires : tie.Need-range-fits-requires
-range-fits-requires c κs = search needs
+range-fits-requires c κs = tt
 
 returns : tie.Need-returns
 returns c = cc

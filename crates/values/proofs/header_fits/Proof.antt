@@ -4,31 +4,31 @@ use Rattle.values.proofs.header_fits.Statement.{statement}
 use Rattle.values.proofs.header_fits.Tie as tie
 
 implies-requires : tie.Need-implies-requires
-implies-requires c κs = search needs
+implies-requires c κs = tt
 
 both-requires : tie.Need-both-requires
-both-requires c κs = search needs
+both-requires c κs = tt
 
 implies-requires-2 : tie.Need-implies-requires-2
-implies-requires-2 c κs = search needs
+implies-requires-2 c κs = tt
 
 both-requires-2 : tie.Need-both-requires-2
-both-requires-2 c κs = search needs
+both-requires-2 c κs = tt
 
 both-requires-3 : tie.Need-both-requires-3
-both-requires-3 c κs = search needs
+both-requires-3 c κs = tt
 
 both-requires-4 : tie.Need-both-requires-4
-both-requires-4 c κs = search needs
+both-requires-4 c κs = tt
 
 both-requires-5 : tie.Need-both-requires-5
-both-requires-5 c κs = search needs
+both-requires-5 c κs = tt
 
 both-requires-6 : tie.Need-both-requires-6
-both-requires-6 c κs = search needs
+both-requires-6 c κs = tt
 
 both-requires-7 : tie.Need-both-requires-7
-both-requires-7 c κs = search needs
+both-requires-7 c κs = tt
 
 returns : tie.Need-returns
 returns c =

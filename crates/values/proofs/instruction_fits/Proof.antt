@@ -9,13 +9,13 @@ use Rattle.values.proofs.instruction_fits.Statement.{statement}
 use Rattle.values.proofs.instruction_fits.Tie as tie
 
 code-word-requires : tie.Need-code-word-requires
-code-word-requires c κs = search needs
+code-word-requires c κs = tt
 
 decode-requires : tie.Need-decode-requires
-decode-requires c κs = search needs
+decode-requires c κs = tt
 
 encode-requires : tie.Need-encode-requires
-encode-requires c κs = search needs
+encode-requires c κs = tt
 
 returns : tie.Need-returns
 returns c =
@@ -25,16 +25,16 @@ returns c =
     rw (ne-eqb (wordOf (instructionAt p (a .m) (a .pc))) (wordAt p (a .m) (a .pc)) differs)
 
 limits-of-requires : tie.Need-limits-of-requires
-limits-of-requires c κs = search needs
+limits-of-requires c κs = tt
 
 names-fit-requires : tie.Need-names-fit-requires
-names-fit-requires c κs = search needs
+names-fit-requires c κs = tt
 
 call-fits-requires : tie.Need-call-fits-requires
-call-fits-requires c κs = search needs
+call-fits-requires c κs = tt
 
 both-requires : tie.Need-both-requires
-both-requires c κs = search needs
+both-requires c κs = tt
 
 returns-2 : tie.Need-returns-2
 returns-2 c =

@@ -10,7 +10,7 @@ use Rattle.values.proofs.instruction_mark.Statement.{statement}
 use Rattle.values.proofs.instruction_mark.Tie as tie
 
 instruction-fits-requires : tie.Need-instruction-fits-requires
-instruction-fits-requires c κs = search needs
+instruction-fits-requires c κs = tt
 
 returns : tie.Need-returns
 unfolding instructionMark
@@ -21,7 +21,7 @@ returns c =
     rw fails
 
 ends-badly-requires : tie.Need-ends-badly-requires
-ends-badly-requires c κs = search needs
+ends-badly-requires c κs = tt
 
 returns-2 : tie.Need-returns-2
 unfolding instructionMark

@@ -4,22 +4,22 @@ use Rattle.values.proofs.limits_of.Statement.{statement}
 use Rattle.values.proofs.limits_of.Tie as tie
 
 registers-requires : tie.Need-registers-requires
-registers-requires c κs = search needs
+registers-requires c κs = tt
 
 code-length-requires : tie.Need-code-length-requires
-code-length-requires c κs = search needs
+code-length-requires c κs = tt
 
 class-count-requires : tie.Need-class-count-requires
-class-count-requires c κs = search needs
+class-count-requires c κs = tt
 
 field-count-requires : tie.Need-field-count-requires
-field-count-requires c κs = search needs
+field-count-requires c κs = tt
 
 static-count-requires : tie.Need-static-count-requires
-static-count-requires c κs = search needs
+static-count-requires c κs = tt
 
 method-count-requires : tie.Need-method-count-requires
-method-count-requires c κs = search needs
+method-count-requires c κs = tt
 
 returns : tie.Need-returns
 returns c = cc

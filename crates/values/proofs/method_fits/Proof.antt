@@ -4,28 +4,28 @@ use Rattle.values.proofs.method_fits.Statement.{statement}
 use Rattle.values.proofs.method_fits.Tie as tie
 
 class-count-requires : tie.Need-class-count-requires
-class-count-requires c κs = search needs
+class-count-requires c κs = tt
 
 method-class-requires : tie.Need-method-class-requires
-method-class-requires c κs = search needs
+method-class-requires c κs = tt
 
 method-kind-requires : tie.Need-method-kind-requires
-method-kind-requires c κs = search needs
+method-kind-requires c κs = tt
 
 registers-requires : tie.Need-registers-requires
-registers-requires c κs = search needs
+registers-requires c κs = tt
 
 arguments-requires : tie.Need-arguments-requires
-arguments-requires c κs = search needs
+arguments-requires c κs = tt
 
 header-fits-requires : tie.Need-header-fits-requires
-header-fits-requires c κs = search needs
+header-fits-requires c κs = tt
 
 repeated-requires : tie.Need-repeated-requires
-repeated-requires c κs = search needs
+repeated-requires c κs = tt
 
 both-requires : tie.Need-both-requires
-both-requires c κs = search needs
+both-requires c κs = tt
 
 returns : tie.Need-returns
 returns c = cc

@@ -4,13 +4,13 @@ use Rattle.values.proofs.range_fits.Statement.{statement}
 use Rattle.values.proofs.range_fits.Tie as tie
 
 both-requires : tie.Need-both-requires
-both-requires c κs = search needs
+both-requires c κs = tt
 
 both-requires-2 : tie.Need-both-requires-2
-both-requires-2 c κs = search needs
+both-requires-2 c κs = tt
 
 both-requires-3 : tie.Need-both-requires-3
-both-requires-3 c κs = search needs
+both-requires-3 c κs = tt
 
 returns : tie.Need-returns
 returns c = rw (c .both3 .ensures, c .before .both2 .ensures, c .before .before .both .ensures)

@@ -22,7 +22,7 @@ loop-holds : tie.Need-loop-holds Inv-loop μ-loop
 loop-holds c = below-none _
 
 alike-requires : tie.Need-alike-requires Inv-loop μ-loop
-alike-requires c κs = search needs
+alike-requires c κs = tt
 
 returns : tie.Need-returns Inv-loop μ-loop
 unfolding repeated

@@ -11,22 +11,22 @@ abbrev μ-loop : tie.MeasureT-loop
 μ-loop t n classes fields sum₀ m₀ sum m = n - m
 
 method-count-requires : tie.Need-method-count-requires Inv-loop μ-loop
-method-count-requires c κs = search needs
+method-count-requires c κs = tt
 
 mix-frames-requires : tie.Need-mix-frames-requires Inv-loop μ-loop
-mix-frames-requires c κs = search needs
+mix-frames-requires c κs = tt
 
 mix-frames-requires-2 : tie.Need-mix-frames-requires-2 Inv-loop μ-loop
-mix-frames-requires-2 c κs = search needs
+mix-frames-requires-2 c κs = tt
 
 mix-frames-requires-3 : tie.Need-mix-frames-requires-3 Inv-loop μ-loop
-mix-frames-requires-3 c κs = search needs
+mix-frames-requires-3 c κs = tt
 
 loop-holds : tie.Need-loop-holds Inv-loop μ-loop
 loop-holds c = search needs
 
 mix-method-requires : tie.Need-mix-method-requires Inv-loop μ-loop
-mix-method-requires c κs = search needs
+mix-method-requires c κs = tt
 
 add-m : tie.Need-add-m Inv-loop μ-loop
 add-m c = search needs

@@ -11,13 +11,13 @@ abbrev μ-loop : tie.MeasureT-loop
 μ-loop t k m h n sum₀ i₀ sum i = n - i
 
 count-requires : tie.Need-count-requires Inv-loop μ-loop
-count-requires c κs = search needs
+count-requires c κs = tt
 
 loop-holds : tie.Need-loop-holds Inv-loop μ-loop
 loop-holds c = search needs
 
 mix-frame-requires : tie.Need-mix-frame-requires Inv-loop μ-loop
-mix-frame-requires c κs = search needs
+mix-frame-requires c κs = tt
 
 add-i : tie.Need-add-i Inv-loop μ-loop
 add-i c = search needs

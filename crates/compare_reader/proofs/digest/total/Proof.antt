@@ -11,13 +11,13 @@ abbrev μ-loop : tie.MeasureT-loop
 μ-loop t k n sum₀ m₀ sum m = n - m
 
 method-count-requires : tie.Need-method-count-requires Inv-loop μ-loop
-method-count-requires c κs = search needs
+method-count-requires c κs = tt
 
 loop-holds : tie.Need-loop-holds Inv-loop μ-loop
 loop-holds c = search needs
 
 count-requires : tie.Need-count-requires Inv-loop μ-loop
-count-requires c κs = search needs
+count-requires c κs = tt
 
 add-sum : tie.Need-add-sum Inv-loop μ-loop
 add-sum c = search needs

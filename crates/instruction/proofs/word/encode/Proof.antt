@@ -9,49 +9,49 @@ use Rattle.instruction.proofs.word.encode.Statement.{statement}
 use Rattle.instruction.proofs.word.encode.Tie as tie
 
 enum-told : tie.Need-enum-told
-enum-told c = search needs
+enum-told c = c .match .keys1
 
 pack-requires : tie.Need-pack-requires
-pack-requires c κs = search needs
+pack-requires c κs = tt
 
 enum-known-i : tie.Need-enum-known-i
-enum-known-i c = search needs
+enum-known-i c = c .match .keys2
 
 pack-requires-2 : tie.Need-pack-requires-2
-pack-requires-2 c κs = search needs
+pack-requires-2 c κs = tt
 
 enum-known-i-2 : tie.Need-enum-known-i-2
-enum-known-i-2 c = search needs
+enum-known-i-2 c = c .match .keys3
 
 bits-requires : tie.Need-bits-requires
-bits-requires c κs = search needs
+bits-requires c κs = tt
 
 pack-requires-3 : tie.Need-pack-requires-3
-pack-requires-3 c κs = search needs
+pack-requires-3 c κs = tt
 
 enum-known-i-3 : tie.Need-enum-known-i-3
-enum-known-i-3 c = search needs
+enum-known-i-3 c = c .match .keys4
 
 pack-requires-4 : tie.Need-pack-requires-4
-pack-requires-4 c κs = search needs
+pack-requires-4 c κs = tt
 
 enum-known-i-4 : tie.Need-enum-known-i-4
-enum-known-i-4 c = search needs
+enum-known-i-4 c = c .match .keys5
 
 condition-number-requires : tie.Need-condition-number-requires
-condition-number-requires c κs = search needs
+condition-number-requires c κs = tt
 
 cast-pack : tie.Need-cast-pack
 cast-pack c = rw (c .condition-number .ensures) (omega (arith, condition-small (c .before .before .i4 .given .0 .0)))
 
 pack-requires-5 : tie.Need-pack-requires-5
-pack-requires-5 c κs = search needs
+pack-requires-5 c κs = tt
 
 enum-known-i-5 : tie.Need-enum-known-i-5
-enum-known-i-5 c = search needs
+enum-known-i-5 c = c .match .keys6
 
 condition-number-requires-2 : tie.Need-condition-number-requires-2
-condition-number-requires-2 c κs = search needs
+condition-number-requires-2 c κs = tt
 
 add-pack : tie.Need-add-pack
 add-pack c = omega (arith, c .condition-number2 .ensures, condition-small (c .before .before .i5 .given .0 .0))
@@ -60,115 +60,115 @@ cast-pack-2 : tie.Need-cast-pack-2
 cast-pack-2 c = omega (arith, c .condition-number2 .ensures, condition-small (c .before .before .i5 .given .0 .0))
 
 pack-requires-6 : tie.Need-pack-requires-6
-pack-requires-6 c κs = search needs
+pack-requires-6 c κs = tt
 
 enum-known-i-6 : tie.Need-enum-known-i-6
-enum-known-i-6 c = search needs
+enum-known-i-6 c = c .match .keys7
 
 operation-number-requires : tie.Need-operation-number-requires
-operation-number-requires c κs = search needs
+operation-number-requires c κs = tt
 
 cast-pack-3 : tie.Need-cast-pack-3
 cast-pack-3 c = omega (arith, c .operation-number .ensures, operation-small (c .before .before .i6 .given .0 .0))
 
 pack-requires-7 : tie.Need-pack-requires-7
-pack-requires-7 c κs = search needs
+pack-requires-7 c κs = tt
 
 enum-known-i-7 : tie.Need-enum-known-i-7
-enum-known-i-7 c = search needs
+enum-known-i-7 c = c .match .keys8
 
 unary-number-requires : tie.Need-unary-number-requires
-unary-number-requires c κs = search needs
+unary-number-requires c κs = tt
 
 cast-pack-4 : tie.Need-cast-pack-4
 cast-pack-4 c = omega (arith, c .unary-number .ensures, unary-small (c .before .before .i7 .given .0 .0))
 
 pack-requires-8 : tie.Need-pack-requires-8
-pack-requires-8 c κs = search needs
+pack-requires-8 c κs = tt
 
 enum-known-i-8 : tie.Need-enum-known-i-8
-enum-known-i-8 c = search needs
+enum-known-i-8 c = c .match .keys9
 
 pack-requires-9 : tie.Need-pack-requires-9
-pack-requires-9 c κs = search needs
+pack-requires-9 c κs = tt
 
 enum-known-i-9 : tie.Need-enum-known-i-9
-enum-known-i-9 c = search needs
+enum-known-i-9 c = c .match .keys10
 
 pack-requires-10 : tie.Need-pack-requires-10
-pack-requires-10 c κs = search needs
+pack-requires-10 c κs = tt
 
 enum-known-i-10 : tie.Need-enum-known-i-10
-enum-known-i-10 c = search needs
+enum-known-i-10 c = c .match .keys11
 
 pack-requires-11 : tie.Need-pack-requires-11
-pack-requires-11 c κs = search needs
+pack-requires-11 c κs = tt
 
 enum-known-i-11 : tie.Need-enum-known-i-11
-enum-known-i-11 c = search needs
+enum-known-i-11 c = c .match .keys12
 
 pack-requires-12 : tie.Need-pack-requires-12
-pack-requires-12 c κs = search needs
+pack-requires-12 c κs = tt
 
 enum-known-i-12 : tie.Need-enum-known-i-12
-enum-known-i-12 c = search needs
+enum-known-i-12 c = c .match .keys13
 
 pack-requires-13 : tie.Need-pack-requires-13
-pack-requires-13 c κs = search needs
+pack-requires-13 c κs = tt
 
 enum-known-i-13 : tie.Need-enum-known-i-13
-enum-known-i-13 c = search needs
+enum-known-i-13 c = c .match .keys14
 
 pack-requires-14 : tie.Need-pack-requires-14
-pack-requires-14 c κs = search needs
+pack-requires-14 c κs = tt
 
 enum-known-i-14 : tie.Need-enum-known-i-14
-enum-known-i-14 c = search needs
+enum-known-i-14 c = c .match .keys15
 
 pack-requires-15 : tie.Need-pack-requires-15
-pack-requires-15 c κs = search needs
+pack-requires-15 c κs = tt
 
 enum-known-i-15 : tie.Need-enum-known-i-15
-enum-known-i-15 c = search needs
+enum-known-i-15 c = c .match .keys16
 
 pack-requires-16 : tie.Need-pack-requires-16
-pack-requires-16 c κs = search needs
+pack-requires-16 c κs = tt
 
 enum-known-i-16 : tie.Need-enum-known-i-16
-enum-known-i-16 c = search needs
+enum-known-i-16 c = c .match .keys17
 
 pack-requires-17 : tie.Need-pack-requires-17
-pack-requires-17 c κs = search needs
+pack-requires-17 c κs = tt
 
 enum-known-i-17 : tie.Need-enum-known-i-17
-enum-known-i-17 c = search needs
+enum-known-i-17 c = c .match .keys18
 
 pack-requires-18 : tie.Need-pack-requires-18
-pack-requires-18 c κs = search needs
+pack-requires-18 c κs = tt
 
 enum-told-2 : tie.Need-enum-told-2
-enum-told-2 c = search needs
+enum-told-2 c = c .match .keys19
 
 pack-requires-19 : tie.Need-pack-requires-19
-pack-requires-19 c κs = search needs
+pack-requires-19 c κs = tt
 
 enum-known-i-18 : tie.Need-enum-known-i-18
-enum-known-i-18 c = search needs
+enum-known-i-18 c = c .match .keys20
 
 pack-requires-20 : tie.Need-pack-requires-20
-pack-requires-20 c κs = search needs
+pack-requires-20 c κs = tt
 
 enum-known-i-19 : tie.Need-enum-known-i-19
-enum-known-i-19 c = search needs
+enum-known-i-19 c = c .match .keys21
 
 pack-requires-21 : tie.Need-pack-requires-21
-pack-requires-21 c κs = search needs
+pack-requires-21 c κs = tt
 
 enum-known-i-20 : tie.Need-enum-known-i-20
-enum-known-i-20 c = search needs
+enum-known-i-20 c = c .match .keys22
 
 pack-requires-22 : tie.Need-pack-requires-22
-pack-requires-22 c κs = search needs
+pack-requires-22 c κs = tt
 
 returns : tie.Need-returns
 returns c = rw (c .before .enum-told .given .1, c .pack .ensures)

@@ -14,16 +14,16 @@ abbrev opcodes : List ℕ
 opcodes = 20 ∷ 19 ∷ 18 ∷ 17 ∷ 16 ∷ 15 ∷ 14 ∷ 13 ∷ 12 ∷ 11 ∷ 10 ∷ 9 ∷ 8 ∷ 7 ∷ 6 ∷ 5 ∷ 4 ∷ 3 ∷ 2 ∷ 1 ∷ []
 
 condition-of-requires : tie.Need-condition-of-requires
-condition-of-requires c κs = search needs
+condition-of-requires c κs = tt
 
 condition-of-requires-2 : tie.Need-condition-of-requires-2
-condition-of-requires-2 c κs = search needs
+condition-of-requires-2 c κs = tt
 
 operation-of-requires : tie.Need-operation-of-requires
-operation-of-requires c κs = search needs
+operation-of-requires c κs = tt
 
 unary-of-requires : tie.Need-unary-of-requires
-unary-of-requires c κs = search needs
+unary-of-requires c κs = tt
 
 returns : tie.Need-returns
 unfolding fieldsOf
