@@ -3,9 +3,12 @@
 use mathlib.Core.Path.{_≡_, refl}
 use mathlib.Core.Bool.{Bool, true, false, _&&_}
 use mathlib.Core.List.{List, [], _∷_}
-use Prim.Native.Nat.{ℕ, zero, suc}
+use Prim.Native.Nat.{ℕ, zero, suc, _<_}
+use native.Mathlib.Omega.{arith}
 use Prim.Native.String.{String, _++_}
 use lib.Dec.{eqb}
+use lib.ListN.{length, replicate, length-replicate}
+use borrow.Author.Tests.{lt-ltb}
 use Rattle.text.specs.Hex.{linesOf, whole, allDigits, digitOf, numberFrom}
 use Rattle.instruction.specs.Word.{instructionOf, fieldsOf, conditionOf, operationOf, unaryOf, signedOf}
 use Rattle.program.specs.Program.{Program, classCount}
@@ -109,3 +112,11 @@ unfolding readProgram valued judged readLines lineKind lineFields kindOf linesOf
     marks marksIn methodMarks firstMark valueMark instructionMark repeated alike instructionOf fieldsOf conditionOf
     operationOf unaryOf signedOf
 rows-right = refl
+
+-- 1: every text over 65,536 bytes, at line 0; so 65,537 digits
+pub too-long : (text : List ℕ) → 65536 < length text → readProgram text ≡ refused 1 0
+unfolding readProgram
+too-long text h = rw (lt-ltb 65536 (length text) h)
+
+pub long-refused : readProgram (replicate 65537 48) ≡ refused 1 0
+long-refused = too-long (replicate 65537 48) (omega (arith, length-replicate {A = ℕ} 65537 48))
