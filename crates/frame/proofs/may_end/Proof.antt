@@ -10,7 +10,7 @@ both-requires-2 : tie.Need-both-requires-2
 both-requires-2 c κs = tt
 
 returns : tie.Need-returns
-returns c = cc
+returns c = rw (c .both2 .ensures, c .before .both .ensures)
 
 pub may-end-spec : {M : Type 1} → statement M
 may-end-spec = tie.close (tie.spec both-requires both-requires-2 returns)

@@ -76,22 +76,22 @@ enum-told-7 : tie.Need-enum-told-7
 enum-told-7 c = c .match .keys7
 
 returns : tie.Need-returns
-returns c = rw (c .before .before .before .before .before .before .before .enum-told .given .1) (cc)
+returns c = rw (c .before .before .before .before .before .before .before .enum-told .given .1, c .both3 .ensures, c .before .both2 .ensures, c .before .before .both .ensures)
 
 returns-2 : tie.Need-returns-2
-returns-2 c = rw (c .before .before .before .before .before .before .before .enum-told2 .given .1) (cc)
+returns-2 c = rw (c .before .before .before .before .before .before .before .enum-told2 .given .1, c .both6 .ensures, c .before .both5 .ensures, c .before .before .both4 .ensures)
 
 returns-3 : tie.Need-returns-3
-returns-3 c = rw (c .before .before .before .before .before .enum-told3 .given .1) (cc)
+returns-3 c = rw (c .before .before .before .before .before .enum-told3 .given .1, c .both8 .ensures, c .before .both7 .ensures)
 
 returns-4 : tie.Need-returns-4
-returns-4 c = rw (c .before .before .before .before .before .before .before .enum-told4 .given .1) (cc)
+returns-4 c = rw (c .before .before .before .before .before .before .before .enum-told4 .given .1, c .both10 .ensures, c .before .both9 .ensures, c .before .before .implies .ensures)
 
 returns-5 : tie.Need-returns-5
-returns-5 c = rw (c .before .before .before .before .before .before .before .enum-told5 .given .1) (cc)
+returns-5 c = rw (c .before .before .before .before .before .before .before .enum-told5 .given .1, c .both13 .ensures, c .before .both12 .ensures, c .before .before .both11 .ensures)
 
 returns-6 : tie.Need-returns-6
-returns-6 c = rw (c .before .before .before .before .before .before .before .enum-told6 .given .1) (cc)
+returns-6 c = rw (c .before .before .before .before .before .before .before .enum-told6 .given .1, c .both16 .ensures, c .before .both15 .ensures, c .before .before .both14 .ensures)
 
 returns-7 : tie.Need-returns-7
 returns-7 c = search needs

@@ -40,22 +40,22 @@ enum-told-7 : tie.Need-enum-told-7
 enum-told-7 c = c .match .keys7
 
 returns : tie.Need-returns
-returns c = rw (c .before .enum-told .given .1) (cc)
+returns c = rw (c .before .enum-told .given .1, c .class-count .ensures)
 
 returns-2 : tie.Need-returns-2
-returns-2 c = rw (c .before .enum-told2 .given .1) (cc)
+returns-2 c = rw (c .before .enum-told2 .given .1, c .field-count .ensures)
 
 returns-3 : tie.Need-returns-3
-returns-3 c = rw (c .before .enum-told3 .given .1) (cc)
+returns-3 c = rw (c .before .enum-told3 .given .1, c .static-count .ensures)
 
 returns-4 : tie.Need-returns-4
 returns-4 c = search needs
 
 returns-5 : tie.Need-returns-5
-returns-5 c = rw (c .before .enum-told5 .given .1) (cc)
+returns-5 c = rw (c .before .enum-told5 .given .1, c .handler-count .ensures)
 
 returns-6 : tie.Need-returns-6
-returns-6 c = rw (c .before .enum-told6 .given .1) (cc)
+returns-6 c = rw (c .before .enum-told6 .given .1, c .code-length .ensures)
 
 returns-7 : tie.Need-returns-7
 returns-7 c = search needs

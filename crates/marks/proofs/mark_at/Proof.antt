@@ -54,25 +54,25 @@ enum-told-7 c = c .match .keys7
 
 returns : tie.Need-returns
 unfolding valueMark
-returns c = rw (c .before .before .enum-told .given .1) (cc)
+returns c = rw (c .before .before .enum-told .given .1, c .value-mark .ensures, c .before .class-fits .ensures)
 
 returns-2 : tie.Need-returns-2
 unfolding valueMark
-returns-2 c = rw (c .before .before .enum-told2 .given .1) (cc)
+returns-2 c = rw (c .before .before .enum-told2 .given .1, c .value-mark2 .ensures, c .before .field-fits .ensures)
 
 returns-3 : tie.Need-returns-3
 returns-3 c = search needs
 
 returns-4 : tie.Need-returns-4
 unfolding valueMark
-returns-4 c = rw (c .before .before .enum-told4 .given .1) (cc)
+returns-4 c = rw (c .before .before .enum-told4 .given .1, c .value-mark3 .ensures, c .before .method-fits .ensures)
 
 returns-5 : tie.Need-returns-5
 unfolding valueMark
-returns-5 c = rw (c .before .before .enum-told5 .given .1) (cc)
+returns-5 c = rw (c .before .before .enum-told5 .given .1, c .value-mark4 .ensures, c .before .handler-fits .ensures)
 
 returns-6 : tie.Need-returns-6
-returns-6 c = rw (c .before .enum-told6 .given .1) (cc)
+returns-6 c = rw (c .before .enum-told6 .given .1, c .instruction-mark .ensures)
 
 returns-7 : tie.Need-returns-7
 returns-7 c = search needs

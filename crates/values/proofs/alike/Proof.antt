@@ -21,7 +21,7 @@ both-requires c κs = tt
 
 returns : tie.Need-returns
 unfolding alike
-returns c = cc
+returns c = rw (c .both .ensures, c .before .method-name2 .ensures, c .before .before .method-name .ensures, c .before .before .before .method-class2 .ensures, c .before .before .before .before .method-class .ensures)
 
 pub alike-spec : {M : Type 1} → statement M
 alike-spec =

@@ -10,7 +10,7 @@ super-fits-requires : tie.Need-super-fits-requires
 super-fits-requires c κs = tt
 
 returns : tie.Need-returns
-returns c = cc
+returns c = rw (c .super-fits .ensures, c .before .superclass .ensures)
 
 pub class-fits-spec : {M : Type 1} → statement M
 class-fits-spec = tie.close (tie.spec superclass-requires super-fits-requires returns)

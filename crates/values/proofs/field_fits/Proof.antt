@@ -10,7 +10,7 @@ class-count-requires : tie.Need-class-count-requires
 class-count-requires c κs = tt
 
 returns : tie.Need-returns
-returns c = cc
+returns c = rw (c .class-count .ensures, c .before .field-class .ensures)
 
 pub field-fits-spec : {M : Type 1} → statement M
 field-fits-spec = tie.close (tie.spec field-class-requires class-count-requires returns)

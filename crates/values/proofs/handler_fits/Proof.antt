@@ -25,7 +25,7 @@ range-fits-requires : tie.Need-range-fits-requires
 range-fits-requires c κs = tt
 
 returns : tie.Need-returns
-returns c = cc
+returns c = rw (c .range-fits .ensures, c .before .handler-class .ensures, c .before .before .handler-target .ensures, c .before .before .before .handler-to .ensures, c .before .before .before .before .handler-from .ensures, c .before .before .before .before .before .class-count .ensures, c .before .before .before .before .before .before .code-length .ensures)
 
 pub handler-fits-spec : {M : Type 1} → statement M
 handler-fits-spec =

@@ -1,5 +1,5 @@
 -- `values::instruction_fits` meets its contract. Assumes nothing.
-use mathlib.Core.Path.{_≡_}
+use mathlib.Core.Path.{_≡_, sym, _∙_}
 use borrow.Author.Tests.{eq-eqb, ne-eqb}
 use borrow.Author.Needs.{needs}
 use Rattle.instruction.specs.Word.{wordOf}
@@ -21,7 +21,11 @@ returns : tie.Need-returns
 returns c =
     let a = c .before .before .before .before .args in
     let p = programIn (a .t .now) in
-    let differs : wordOf (instructionAt p (a .m) (a .pc)) ≡ wordAt p (a .m) (a .pc) → ⊥ = λ e. c .if1 .taken (cc) in
+    let w = c .before .before .before .code-word .ensures in
+    let same : c .before .encode .result ≡ wordOf (instructionAt p (a .m) (a .pc)) =
+    rw (c .before .encode .ensures, c .before .before .decode .ensures, w) in
+    let differs : wordOf (instructionAt p (a .m) (a .pc)) ≡ wordAt p (a .m) (a .pc) → ⊥ =
+    λ e. c .if1 .taken (same ∙ e ∙ sym w) in
     rw (ne-eqb (wordOf (instructionAt p (a .m) (a .pc))) (wordAt p (a .m) (a .pc)) differs)
 
 limits-of-requires : tie.Need-limits-of-requires
@@ -41,8 +45,19 @@ returns-2 c =
     let b = c .before .before .before .before in
     let a = b .before .before .before .before .args in
     let p = programIn (a .t .now) in
-    let agrees : wordOf (instructionAt p (a .m) (a .pc)) ≡ wordAt p (a .m) (a .pc) = cc in
-    rw (eq-eqb (wordOf (instructionAt p (a .m) (a .pc))) (wordAt p (a .m) (a .pc)) agrees) (cc)
+    let w = b .before .before .before .code-word .ensures in
+    let same : b .before .encode .result ≡ wordOf (instructionAt p (a .m) (a .pc)) =
+    rw (b .before .encode .ensures, b .before .before .decode .ensures, w) in
+    let agrees : wordOf (instructionAt p (a .m) (a .pc)) ≡ wordAt p (a .m) (a .pc) = sym same ∙ b .if1 .left ∙ w in
+    rw (
+      eq-eqb (wordOf (instructionAt p (a .m) (a .pc))) (wordAt p (a .m) (a .pc)) agrees,
+      c .both .ensures,
+      c .before .call-fits .ensures,
+      c .before .before .names-fit .ensures,
+      c .before .before .before .limits-of .ensures,
+      b .before .before .decode .ensures,
+      w,
+    )
 
 pub instruction-fits-spec : {M : Type 1} → statement M
 instruction-fits-spec =

@@ -22,7 +22,7 @@ method-count-requires : tie.Need-method-count-requires
 method-count-requires c κs = tt
 
 returns : tie.Need-returns
-returns c = cc
+returns c = rw (c .method-count .ensures, c .before .static-count .ensures, c .before .before .field-count .ensures, c .before .before .before .class-count .ensures, c .before .before .before .before .code-length .ensures, c .before .before .before .before .before .registers .ensures)
 
 pub limits-of-spec : {M : Type 1} → statement M
 limits-of-spec =

@@ -28,7 +28,7 @@ both-requires : tie.Need-both-requires
 both-requires c κs = tt
 
 returns : tie.Need-returns
-returns c = cc
+returns c = rw (c .both .ensures, c .before .repeated .ensures, c .before .before .header-fits .ensures, c .before .before .before .arguments .ensures, c .before .before .before .before .registers .ensures, c .before .before .before .before .before .method-kind .ensures, c .before .before .before .before .before .before .method-class .ensures, c .before .before .before .before .before .before .before .class-count .ensures)
 
 pub method-fits-spec : {M : Type 1} → statement M
 method-fits-spec =
