@@ -34,16 +34,11 @@ fn taken(t: &[u64; 768]) {
     sums(t);
 }
 
-fn tables() -> [u64; 768] {
-    [0; 768]
-}
-
-// Reads one text and prints its line.
-fn show(text: &[u8]) {
-    let mut t = tables();
-    let answer = reader::read(text, &mut t);
+// Reads one text by way of the tables and prints its line.
+fn show_by(text: &[u8], t: &mut [u64; 768]) {
+    let answer = reader::read(text, &mut *t);
     match answer {
-        Answer::Read => taken(&t),
+        Answer::Read => taken(t),
         Answer::TooLong => refused(1, 0),
         Answer::BadLine(at) => refused(2, at),
         Answer::BadFrame(at) => refused(3, at),
@@ -52,6 +47,11 @@ fn show(text: &[u8]) {
         Answer::FallsThrough(at) => refused(6, at),
     }
     io::write_all(STDOUT_FILENO, b"\n");
+}
+
+fn show(text: &[u8]) {
+    let mut t = [0u64; 768];
+    show_by(text, &mut t);
 }
 
 // Fills the buffer with the text that comes next and prints its line; false where the file is too short.

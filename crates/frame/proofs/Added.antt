@@ -1,8 +1,8 @@
 -- A program with one frame more: its counts, its limits and its tables. Assumes nothing.
-use mathlib.Core.Path.{_≡_, refl, sym, ap, _∙_, subst}
-use mathlib.Core.Bool.{Bool, true, false, true≢false}
+use mathlib.Core.Path.{_≡_, refl, ap, _∙_}
+use mathlib.Core.Bool.{true≢false}
 use mathlib.Core.List.{List, [], _∷_, _++_}
-use Prim.Native.Nat.{ℕ, _+_, _-_, _≤_, _<_}
+use Prim.Native.Nat.{ℕ, _-_, _≤_, _<_}
 use native.Mathlib.Omega.{arith}
 use lib.Dec.{eqb}
 use lib.ListN.{length, getD, set, length-append, length-set}
@@ -10,13 +10,12 @@ use lib.Seq.{getD-append-seam, getD-set-same, getD-set-other}
 use borrow.Author.Tests.{eqb-true, eqb-false}
 use Rattle.text.proofs.Cases.{by-test}
 use Rattle.instruction.specs.Test.{Holds}
-use Rattle.program.specs.Program.{Method, Program, noMethod, classCount, fieldCount, methodCount, methodAt, codeLength, handlerCount}
+use Rattle.program.specs.Program.{Method, Program, noMethod, methodCount, methodAt}
 use Rattle.program.specs.Tables.{Limited, tablesOf}
 use Rattle.program.proofs.Grow.{grow-class, grow-field, grow-static, grow-method, grow-code, grow-handler}
 use Rattle.program.proofs.Writes.{getD-snoc-other}
 use Rattle.frame.specs.declared.Kind.{Kind}
 use Rattle.frame.specs.declared.Kind.the-variants.{Class, Field, Static, Header, Handler, Code, Unknown}
-use Rattle.frame.specs.declared.Counts.{Counts}
 use Rattle.frame.specs.Frame.{countsOf, mayStand, withMethods, withCode, withHandler, added}
 use Rattle.frame.specs.Places.{counts, counted, placeOf, stored}
 

@@ -1,12 +1,12 @@
 -- Frames, their order and their counts: refusals 3 and 4. Definitions only.
-use mathlib.Core.Bool.{Bool, true, false}
+use mathlib.Core.Bool.{true}
 use mathlib.Core.List.{List, [], _∷_, _++_}
 use Prim.Native.Nat.{ℕ, _+_, _-_}
 use lib.Dec.{eqb, ltb}
-use lib.ListN.{length, set}
+use lib.ListN.{set}
 use Rattle.instruction.specs.Word.{pick}
-use Rattle.instruction.specs.Test.{Test, always, under, most, same, _&_, given, never}
-use Rattle.program.specs.Program.{Method, Program, noMethod, classCount, fieldCount, methodCount, methodAt, codeLength, handlerCount}
+use Rattle.instruction.specs.Test.{Test, under, most, same, _&_, given, never}
+use Rattle.program.specs.Program.{Method, Program, classCount, fieldCount, methodCount, methodAt, codeLength, handlerCount}
 use Rattle.frame.specs.declared.Kind.{Kind}
 use Rattle.frame.specs.declared.Kind.the-variants.{Class, Field, Static, Header, Handler, Code, Unknown}
 use Rattle.frame.specs.declared.Counts.{Counts}

@@ -1,8 +1,7 @@
 -- Counters of frames and their places in the tables, which the functions of this crate promise one another. Definitions only,
 -- and none that a reader of the public promise has to believe.
-use mathlib.Core.Path.{_≡_}
 use mathlib.Core.List.{List}
-use Prim.Native.Nat.{ℕ, _+_, _*_, _-_, _≤_}
+use Prim.Native.Nat.{ℕ, _+_, _*_, _-_}
 use lib.ListN.{set}
 use Rattle.instruction.specs.Test.{passes}
 use Rattle.instruction.specs.Word.{pick}

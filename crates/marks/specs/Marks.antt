@@ -1,5 +1,4 @@
 -- A mark for every line of a program's text: refusal 5 or 6, or 0; and the first marked line. Definitions only.
-use mathlib.Core.Bool.{Bool, true, false}
 use mathlib.Core.List.{List, [], _∷_, _++_}
 use Prim.Native.Nat.{ℕ, zero, suc, _+_}
 use lib.Dec.{eqb}

@@ -1,8 +1,8 @@
 -- The walk by line: what a line brings to the program so far. Assumes nothing.
-use mathlib.Core.Path.{_≡_, refl, sym, ap, _∙_}
+use mathlib.Core.Path.{_≡_, refl}
 use mathlib.Core.Bool.{Bool, true, false}
 use mathlib.Core.List.{List, [], _∷_}
-use Prim.Native.Nat.{ℕ, _+_, _≤_, _<_}
+use Prim.Native.Nat.{ℕ, _+_, _≤_}
 use native.Mathlib.Omega.{arith}
 use lib.Dec.{eqb}
 use lib.ListN.{length}
@@ -13,7 +13,6 @@ use Rattle.instruction.proofs.Laws.{holds}
 use Rattle.program.specs.Program.{Program}
 use Rattle.program.specs.Tables.{Limited, tablesOf}
 use Rattle.frame.specs.declared.Counts.{Counts}
-use Rattle.frame.specs.declared.Step.{Step}
 use Rattle.frame.specs.Frame.{digitsOf, countsOf, mayStand, mayEnd, added}
 use Rattle.reader.specs.Read.{Reading, refused, taken, lineKind, lineFields, readLines}
 use Rattle.frame.specs.Places.{step}

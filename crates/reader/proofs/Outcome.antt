@@ -1,15 +1,12 @@
 -- From the two walks to what `read` answers and leaves in the tables. Assumes nothing.
 use mathlib.Core.Path.{_≡_, refl, sym, ap, _∙_}
-use mathlib.Core.Bool.{Bool, true, false}
 use mathlib.Core.List.{List, [], _∷_}
 use mathlib.Core.Logic.{⊎-elim}
-use Prim.Native.Nat.{ℕ, zero, suc, _+_, _≤_, _<_}
+use Prim.Native.Nat.{ℕ, zero, suc, _≤_, _<_}
 use native.Mathlib.Omega.{arith}
-use lib.Dec.{eqb, ltb}
 use lib.ListN.{length}
 use borrow.Author.Tests.{lt-ltb, le-ltb, eq-eqb, ne-eqb}
-use Rattle.text.specs.Hex.{linesOf}
-use Rattle.program.specs.Program.{Program, noProgram}
+use Rattle.program.specs.Program.{Program}
 use Rattle.program.specs.Tables.{Limited, tablesOf, programIn}
 use Rattle.program.proofs.Tables.{program-of-tables}
 use Rattle.marks.specs.declared.Stop.{Stop}
@@ -17,7 +14,7 @@ use Rattle.marks.specs.Marks.{marks, firstMark}
 use Rattle.marks.proofs.Clear.{mark-numbers}
 use Rattle.reader.specs.declared.Answer.{Answer}
 use Rattle.reader.specs.declared.Answer.the-variants.{Read, TooLong}
-use Rattle.reader.specs.Read.{Reading, refused, taken, readLines, judged, valued, readProgram, readingNumber, readingValues, tablesAfter, numberOf, valuesOf}
+use Rattle.reader.specs.Read.{Reading, refused, taken, judged, valued, readProgram, readingNumber, readingValues, tablesAfter, numberOf, valuesOf}
 use Rattle.reader.specs.Inside.{Walked, answerOf}
 use Rattle.reader.proofs.Turn.{whole-reading}
 

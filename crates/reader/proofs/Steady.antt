@@ -1,11 +1,10 @@
 -- Order and counts of a program that the walk by line takes: its limits, and a method's one instruction at least. Assumes
 -- nothing.
-use mathlib.Core.Path.{_≡_, refl, sym, ap, _∙_}
-use mathlib.Core.Bool.{Bool, true, false}
+use mathlib.Core.Path.{_≡_, sym}
 use mathlib.Core.List.{List, [], _∷_, _++_}
-use Prim.Native.Nat.{ℕ, suc, _+_, _-_, _≤_, _<_}
+use Prim.Native.Nat.{ℕ, _+_, _-_, _≤_, _<_}
 use native.Mathlib.Omega.{arith}
-use lib.Dec.{eqb, ltb}
+use lib.Dec.{eqb}
 use lib.ListN.{length, getD, set, length-append, length-set, List·getD-append}
 use lib.Seq.{getD-set-other}
 use borrow.Author.Tests.{lt-ltb, eqb-true, eqb-false}
@@ -13,12 +12,12 @@ use Rattle.text.specs.Hex.{Line, whole}
 use Rattle.text.proofs.Cases.{by-test, never}
 use Rattle.instruction.specs.Test.{passes, Holds}
 use Rattle.instruction.proofs.Laws.{holds}
-use Rattle.program.specs.Program.{Method, Program, noMethod, noProgram, classCount, methodCount, codeLength}
+use Rattle.program.specs.Program.{Method, Program, noMethod, classCount, methodCount, codeLength}
 use Rattle.program.specs.Tables.{Limited}
 use Rattle.frame.specs.declared.Kind.{Kind}
 use Rattle.frame.specs.declared.Kind.the-variants.{Class, Field, Static, Header, Handler, Code, Unknown}
 use Rattle.frame.specs.Frame.{digitsOf, countsOf, mayStand, mayEnd, added}
-use Rattle.reader.specs.Read.{Reading, refused, taken, lineKind, lineFields, readLines}
+use Rattle.reader.specs.Read.{refused, taken, lineKind, lineFields, readLines}
 use Rattle.frame.proofs.Added.{added-limited}
 
 -- within the limits, and every method but the last has an instruction

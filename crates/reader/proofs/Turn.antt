@@ -1,11 +1,10 @@
 -- The invariant of the walk by line, and what each turn makes of it. Assumes nothing.
-use mathlib.Core.Path.{_≡_, refl, sym, ap, _∙_, subst}
-use mathlib.Core.Bool.{Bool, true, false}
+use mathlib.Core.Path.{_≡_, refl, sym, ap, _∙_}
+use mathlib.Core.Bool.{true, false}
 use mathlib.Core.List.{List, [], _∷_}
-use Prim.Native.Nat.{ℕ, _+_, _-_, _%_, _≤_, _<_}
+use Prim.Native.Nat.{ℕ, _+_, _≤_, _<_}
 use native.Mathlib.Omega.{arith}
 use lib.ListN.{length, drop}
-use Rattle.text.specs.declared.LineRead.{LineRead}
 use Rattle.text.specs.declared.LineRead.the-variants.{Whole, Broken, End}
 use Rattle.text.specs.Hex.{Line, linesOf, lineReadOf}
 use Rattle.text.proofs.Lines.{next-line, broken-line, no-line}
@@ -13,11 +12,10 @@ use Rattle.instruction.specs.Test.{passes}
 use Rattle.program.specs.Program.{Program, noProgram}
 use Rattle.program.specs.Tables.{Limited, tablesOf}
 use Rattle.marks.specs.Marks.{stop}
-use Rattle.marks.specs.declared.Stop.{Stop}
 use Rattle.frame.specs.declared.Counts.{Counts}
 use Rattle.frame.specs.declared.Step.{Step}
 use Rattle.frame.specs.Frame.{countsOf, mayEnd}
-use Rattle.reader.specs.Read.{Reading, refused, taken, readLines}
+use Rattle.reader.specs.Read.{Reading, refused, readLines}
 use Rattle.frame.specs.Places.{counts}
 use Rattle.reader.specs.Inside.{lineAt, framed, framedTables, Walked}
 use Rattle.reader.proofs.Lines.{Going, going, falling, broken, ended, missing}

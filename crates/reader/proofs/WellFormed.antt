@@ -1,7 +1,7 @@
 -- Every program that a text reads to is well formed. Assumes nothing.
-use mathlib.Core.Path.{_≡_, refl, sym, ap, _∙_}
+use mathlib.Core.Path.{_≡_, refl, sym}
 use mathlib.Core.Bool.{Bool, true, false, _&&_}
-use mathlib.Core.List.{List, [], _∷_}
+use mathlib.Core.List.{List}
 use Prim.Native.Nat.{ℕ, _+_, _-_, _≤_, _<_}
 use native.Mathlib.Omega.{arith}
 use lib.Dec.{eqb, ltb}
@@ -9,15 +9,14 @@ use lib.ListN.{length}
 use borrow.Author.Tests.{eq-eqb, ne-eqb, eqb-true}
 use Rattle.text.specs.Hex.{linesOf}
 use Rattle.text.proofs.Cases.{by-test, never}
-use Rattle.instruction.specs.Test.{Test, Holds}
+use Rattle.instruction.specs.Test.{Holds}
 use Rattle.instruction.specs.Word.{fallsThrough}
-use Rattle.program.specs.Program.{Program, noProgram, classCount, methodCount, superclass, methodKind, arguments, codeLength, instructionAt}
-use Rattle.marks.specs.declared.Stop.{Stop}
-use Rattle.values.specs.Values.{superTest, classTest, methodTest}
+use Rattle.program.specs.Program.{Program, noProgram, methodCount, superclass, methodKind, codeLength, instructionAt}
+use Rattle.values.specs.Values.{superTest}
 use Rattle.marks.specs.Marks.{marks, firstMark}
 use Rattle.marks.specs.Valued.{Valued}
 use Rattle.marks.proofs.Clear.{clear, alone}
-use Rattle.reader.specs.Read.{Reading, refused, taken, readLines, judged, valued, readProgram}
+use Rattle.reader.specs.Read.{Reading, refused, taken, judged, valued, readProgram}
 use Rattle.reader.specs.Formed.{Formed, FormedMethod}
 use Rattle.reader.proofs.Turn.{whole-reading, nothing-limited}
 use Rattle.reader.proofs.Steady.{Steady, Ended, through}

@@ -1,6 +1,6 @@
 -- What holds of every program that the reader takes. Definitions only.
 use mathlib.Core.Path.{_≡_}
-use mathlib.Core.Bool.{Bool, true, false}
+use mathlib.Core.Bool.{false}
 use Prim.Native.Nat.{ℕ, _-_, _≤_, _<_}
 use Rattle.instruction.specs.Test.{Holds}
 use Rattle.instruction.specs.Word.{wordOf, fallsThrough}

@@ -1,26 +1,21 @@
 -- What the reader's inner functions promise one another: counters, places in the tables, a walk's outcome. Definitions only, and
 -- none that a reader of the public promise has to believe.
 use mathlib.Core.Path.{_≡_}
-use mathlib.Core.Bool.{Bool, true, false}
+use mathlib.Core.Bool.{true}
 use mathlib.Core.List.{List}
-use Prim.Native.Nat.{ℕ, _+_, _*_, _-_, _≤_, _<_}
+use Prim.Native.Nat.{ℕ, _≤_}
 use lib.Dec.{eqb}
-use lib.ListN.{length, take, drop, set}
+use lib.ListN.{length, take, drop}
 use Rattle.text.specs.Hex.{Line}
 use Rattle.frame.specs.Places.{step, stepOf, tablesWith}
-use Rattle.instruction.specs.Test.{passes}
 use Rattle.instruction.specs.Word.{pick}
-use Rattle.program.specs.Program.{Program}
 use Rattle.program.specs.Tables.{Limited, tablesOf}
-use Rattle.frame.specs.declared.Kind.{Kind}
-use Rattle.frame.specs.declared.Kind.the-variants.{Class, Field, Static, Header, Handler, Code, Unknown}
 use Rattle.frame.specs.declared.Counts.{Counts}
-use Rattle.frame.specs.declared.Place.{Place}
 use Rattle.frame.specs.declared.Step.{Step}
 use Rattle.marks.specs.declared.Stop.{Stop}
 use Rattle.reader.specs.declared.Answer.{Answer}
 use Rattle.reader.specs.declared.Answer.the-variants.{BadLine, BadFrame, OutOfOrder, BadValue, FallsThrough}
-use Rattle.frame.specs.Frame.{digitsOf, mayStand}
+use Rattle.frame.specs.Frame.{digitsOf}
 use Rattle.reader.specs.Read.{Reading, refused, taken, lineKind, lineFields}
 
 -- the line of so many digits at a place of a text

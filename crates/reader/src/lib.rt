@@ -94,11 +94,25 @@ fn refusal(number: usize, line: usize) -> Answer
     }
 }
 
-// The tables of no program.
-fn empty() -> [u64; 768]
-    ensures tables { λ r. ⌜ r ≡ tablesOf noProgram ⌝ }
+// Reads a program text by way of a draft, the tables of no program, which is copied when nothing is left to refuse.
+fn read_by(text: &[u8], draft: &mut [u64; 768], t: &mut [u64; 768]) -> Answer
+    requires { ⌜ now draft ≡ tablesOf noProgram ⌝ }
+    ensures answer { λ r. ⌜ (numberOf r ≡ readingNumber (readProgram (now (text .entry)))) × (valuesOf r ≡ readingValues (readProgram (now (text .entry)))) ⌝ }
+    ensures memory { λ r. ⌜ now (t .exit) ≡ tablesAfter (readProgram (now (text .entry))) (now (t .entry)) ⌝ }
 {
-    [0; 768]
+    if 65536 < text.len() {
+        return Answer::TooLong;
+    }
+    let order = walk(text, &mut *draft);
+    if order.number != 0 {
+        return refusal(order.number, order.line);
+    }
+    let value = marks::first_mark(draft);
+    if value.number != 0 {
+        return refusal(value.number, value.line);
+    }
+    *t = *draft;
+    Answer::Read
 }
 
 // Reads a program text. Read: the tables hold the program. Refused: they are as they were.
@@ -106,18 +120,6 @@ pub fn read(text: &[u8], t: &mut [u64; 768]) -> Answer
     ensures answer { λ r. ⌜ (numberOf r ≡ readingNumber (readProgram (now (text .entry)))) × (valuesOf r ≡ readingValues (readProgram (now (text .entry)))) ⌝ }
     ensures memory { λ r. ⌜ now (t .exit) ≡ tablesAfter (readProgram (now (text .entry))) (now (t .entry)) ⌝ }
 {
-    if 65536 < text.len() {
-        return Answer::TooLong;
-    }
-    let mut draft = empty();
-    let order = walk(text, &mut draft);
-    if order.number != 0 {
-        return refusal(order.number, order.line);
-    }
-    let value = marks::first_mark(&draft);
-    if value.number != 0 {
-        return refusal(value.number, value.line);
-    }
-    *t = draft;
-    Answer::Read
+    let mut draft = [0u64; 768];
+    read_by(text, &mut draft, t)
 }

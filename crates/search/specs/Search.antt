@@ -1,6 +1,6 @@
 -- The searches that checker and stepper share: superclass test, fields of a class, virtual search, handler search. Definitions
 -- only.
-use mathlib.Core.Bool.{Bool, true, false, _&&_, _||_}
+use mathlib.Core.Bool.{Bool, _&&_, _||_}
 use mathlib.Core.Option.{Option, none, some}
 use Prim.Native.Nat.{ℕ, zero, suc}
 use lib.Dec.{eqb, ltb, leb}

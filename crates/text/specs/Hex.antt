@@ -3,7 +3,7 @@
 pub use mathlib.Core.Bool.{cond as pick}
 use mathlib.Core.Bool.{Bool, true, false, _&&_}
 use mathlib.Core.List.{List, [], _∷_}
-use Prim.Native.Nat.{ℕ, zero, suc, _+_, _*_, _-_, _%_, min}
+use Prim.Native.Nat.{ℕ, _+_, _*_, _-_, _%_, min}
 use lib.Dec.{eqb, ltb}
 use lib.ListN.{length, take, drop}
 use Rattle.text.specs.declared.LineRead.{LineRead}

@@ -1,18 +1,17 @@
 -- Field values: refusal 5, "a field value not allowed above", and refusal 6, "last instruction falls through". Definitions
 -- only.
 use mathlib.Core.Bool.{Bool, true, false, _&&_}
-use mathlib.Core.List.{List, [], _∷_, _++_}
 use mathlib.Core.Option.{Option, none, some}
-use Prim.Native.Nat.{ℕ, zero, suc, _+_}
-use lib.Dec.{eqb, ltb}
+use Prim.Native.Nat.{ℕ, _+_}
+use lib.Dec.{eqb}
 use Rattle.operands.specs.declared.Limits.{Limits}
 use Rattle.instruction.specs.declared.Instruction.{Instruction}
 use Rattle.instruction.specs.declared.Instruction.the-variants.{Nop, Move, Const, Goto, If, IfZero, Binop, Unop, NewInstance, Iget, Iput, Sget, Sput, InvokeVirtual, InvokeStatic, MoveResult, MoveException, Return, ReturnVoid, Throw, InstanceOf, CheckCast}
 use Rattle.instruction.specs.Test.{Test, always, under, most, same, _&_, given, never, passes}
 use Rattle.instruction.specs.Word.{pick, wordOf, fallsThrough}
 use Rattle.operands.specs.Names.{named}
-use Rattle.program.specs.Lists.{tab, first}
-use Rattle.program.specs.Program.{Program, classCount, fieldCount, methodCount, superclass, fieldClass, methodClass, methodName, methodKind, registers, arguments, codeLength, wordAt, instructionAt, handlerCount, handlerFrom, handlerTo, handlerTarget, handlerClass}
+use Rattle.program.specs.Lists.{first}
+use Rattle.program.specs.Program.{Program, classCount, fieldCount, methodCount, superclass, fieldClass, methodClass, methodName, methodKind, registers, arguments, codeLength, wordAt, instructionAt, handlerFrom, handlerTo, handlerTarget, handlerClass}
 
 -- "Class 0 has s = ff. Any other class has a superclass number lower than its own"
 abbrev pub superTest : ℕ → ℕ → Test

@@ -1,5 +1,4 @@
 -- `frame::may_end` meets its contract. Assumes nothing.
-use borrow.Author.Needs.{needs}
 use Rattle.frame.proofs.may_end.Statement.{statement}
 use Rattle.frame.proofs.may_end.Tie as tie
 

@@ -1,6 +1,5 @@
 -- `frame::place_of` meets its contract. Assumes nothing.
 use native.Mathlib.Omega.{arith}
-use borrow.Author.Needs.{needs}
 use Rattle.frame.proofs.place_of.Statement.{statement}
 use Rattle.frame.proofs.place_of.Tie as tie
 

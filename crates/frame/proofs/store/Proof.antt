@@ -3,7 +3,6 @@ use lib.ListN.{set}
 use Prim.Native.Nat.{ℕ}
 use mathlib.Core.List.{List}
 use mathlib.Core.Path.{_∙_, ap}
-use borrow.Author.Needs.{needs}
 use Rattle.frame.proofs.store.Statement.{statement}
 use Rattle.frame.proofs.store.Tie as tie
 

@@ -3,7 +3,6 @@ use Rattle.frame.specs.Frame.{mayStand}
 use Rattle.instruction.proofs.Laws.{holds}
 use borrow.Author.Tests.{not-true, not-false}
 use mathlib.Core.Path.{sym, _∙_}
-use borrow.Author.Needs.{needs}
 use Rattle.frame.proofs.take.Statement.{statement}
 use Rattle.frame.proofs.take.Tie as tie
 

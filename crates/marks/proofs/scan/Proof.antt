@@ -3,7 +3,6 @@
 use mathlib.Core.Path.{_≡_, sym, _∙_}
 use Prim.Native.Nat.{_+_, _-_, _≤_}
 use native.Mathlib.Omega.{arith}
-use borrow.Author.Needs.{needs}
 use Rattle.program.specs.Tables.{programIn}
 use Rattle.marks.specs.Marks.{linesIn, markAt, marksIn, stop, firstMark}
 use Rattle.marks.proofs.Bounds.{lines-limit}

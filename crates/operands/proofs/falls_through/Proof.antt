@@ -10,7 +10,6 @@ use Rattle.instruction.specs.declared.Instruction.{Instruction}
 use Rattle.instruction.specs.declared.Instruction.the-variants.{Nop, Move, Const, Goto, If, IfZero, Binop, Unop, NewInstance, Iget, Iput, Sget, Sput, InvokeVirtual, InvokeStatic, MoveResult, MoveException, Return, ReturnVoid, Throw, InstanceOf, CheckCast}
 use Rattle.instruction.specs.Word.{fallsThrough}
 use Rattle.instruction.proofs.Instruction.{the-type}
-use borrow.Author.Needs.{needs}
 use Rattle.operands.proofs.falls_through.Statement.{statement}
 use Rattle.operands.proofs.falls_through.Tie as tie
 

@@ -1,5 +1,4 @@
 -- `operands::three` meets its contract. Assumes nothing.
-use borrow.Author.Needs.{needs}
 use Rattle.operands.proofs.three.Statement.{statement}
 use Rattle.operands.proofs.three.Tie as tie
 

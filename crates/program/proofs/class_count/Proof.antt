@@ -1,7 +1,6 @@
 -- `program::class_count` meets its contract: word 0, at most 60. Assumes nothing.
 use mathlib.Core.Path.{sym, ap, _∙_}
 use Prim.Native.Nat.{ℕ, min}
-use borrow.Author.Needs.{needs}
 use Rattle.program.proofs.Read.{classes-are}
 use Rattle.program.proofs.class_count.Statement.{statement}
 use Rattle.program.proofs.class_count.Tie as tie

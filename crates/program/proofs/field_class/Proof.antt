@@ -3,7 +3,6 @@ use mathlib.Core.Path.{sym, _∙_}
 use Prim.Native.Nat.{_<_}
 use native.Mathlib.Omega.{arith}
 use lib.ListN.{List·getD-eq-default}
-use borrow.Author.Needs.{needs}
 use Rattle.program.specs.Program.{fieldCount}
 use Rattle.program.specs.Tables.{programIn}
 use Rattle.program.proofs.Read.{fields-limit, field-is}

@@ -1,7 +1,6 @@
 -- `program::field_count` meets its contract: word 1, at most 16. Assumes nothing.
 use mathlib.Core.Path.{sym, ap, _∙_}
 use Prim.Native.Nat.{ℕ, min}
-use borrow.Author.Needs.{needs}
 use Rattle.program.proofs.Read.{fields-are}
 use Rattle.program.proofs.field_count.Statement.{statement}
 use Rattle.program.proofs.field_count.Tie as tie

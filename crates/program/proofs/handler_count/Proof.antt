@@ -3,7 +3,6 @@ use mathlib.Core.Path.{sym, ap, _∙_}
 use Prim.Native.Nat.{ℕ, _≤_, _<_, min}
 use native.Mathlib.Omega.{arith}
 use lib.ListN.{length}
-use borrow.Author.Needs.{needs}
 use Rattle.program.specs.Program.{Method, methodCount}
 use Rattle.program.specs.Tables.{programIn}
 use Rattle.program.proofs.Read.{methods-limit, handlers-are, method-out}

@@ -3,7 +3,6 @@ use mathlib.Core.Path.{_≡_, sym, _∙_}
 use Prim.Native.Nat.{_+_, _*_, _<_}
 use native.Mathlib.Omega.{arith}
 use lib.ListN.{getD, List·getD-eq-default}
-use borrow.Author.Needs.{needs}
 use Rattle.program.specs.Program.{handlerCount, methodAt, handlerAt}
 use Rattle.program.specs.Tables.{programIn}
 use Rattle.program.proofs.Read.{in-handlers}

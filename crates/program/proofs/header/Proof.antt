@@ -2,7 +2,6 @@
 use mathlib.Core.Path.{sym, ap, _∙_}
 use Prim.Native.Nat.{_≤_, _<_}
 use native.Mathlib.Omega.{arith}
-use borrow.Author.Needs.{needs}
 use Rattle.program.specs.Program.{Method, methodCount}
 use Rattle.program.specs.Tables.{programIn}
 use Rattle.program.proofs.Read.{methods-limit, header-is, method-out}

@@ -1,6 +1,5 @@
 -- `program::instruction_at` meets its contract. Assumes nothing.
 use mathlib.Core.Path.{ap, _∙_}
-use borrow.Author.Needs.{needs}
 use Rattle.instruction.specs.Word.{instructionOf}
 use Rattle.program.proofs.instruction_at.Statement.{statement}
 use Rattle.program.proofs.instruction_at.Tie as tie

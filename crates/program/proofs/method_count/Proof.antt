@@ -1,7 +1,6 @@
 -- `program::method_count` meets its contract: word 3, at most 16. Assumes nothing.
 use mathlib.Core.Path.{sym, ap, _∙_}
 use Prim.Native.Nat.{ℕ, min}
-use borrow.Author.Needs.{needs}
 use Rattle.program.proofs.Read.{methods-are}
 use Rattle.program.proofs.method_count.Statement.{statement}
 use Rattle.program.proofs.method_count.Tie as tie

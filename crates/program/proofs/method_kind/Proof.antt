@@ -1,7 +1,6 @@
 -- `program::method_kind` meets its contract: a byte of the header. Assumes nothing.
 use mathlib.Core.Path.{ap}
 use Prim.Native.Nat.{ℕ, _/_, _%_}
-use borrow.Author.Needs.{needs}
 use Rattle.program.proofs.method_kind.Statement.{statement}
 use Rattle.program.proofs.method_kind.Tie as tie
 

@@ -1,7 +1,6 @@
 -- `program::static_count` meets its contract: word 2, at most 16. Assumes nothing.
 use mathlib.Core.Path.{sym, ap, _∙_}
 use Prim.Native.Nat.{ℕ, min}
-use borrow.Author.Needs.{needs}
 use Rattle.program.proofs.Read.{statics-are}
 use Rattle.program.proofs.static_count.Statement.{statement}
 use Rattle.program.proofs.static_count.Tie as tie

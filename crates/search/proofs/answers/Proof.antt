@@ -2,7 +2,6 @@
 use mathlib.Core.Path.{sym, ap, _∙_}
 use Prim.Native.Nat.{ℕ}
 use lib.Dec.{eqb}
-use borrow.Author.Needs.{needs}
 use Rattle.program.specs.Tables.{programIn}
 use Rattle.search.proofs.Searches.{other-class, other-name, other-kind, count-decides}
 use Rattle.search.proofs.answers.Statement.{statement}

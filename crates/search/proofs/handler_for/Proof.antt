@@ -5,7 +5,6 @@ use mathlib.Core.Bool.{false}
 use Prim.Native.Nat.{ℕ, _≤_, _<_, _-_}
 use native.Mathlib.Omega.{arith}
 use borrow.Author.Count.{below-more}
-use borrow.Author.Needs.{needs}
 use Rattle.program.specs.Program.{handlerCount}
 use Rattle.search.specs.Search.{catches}
 use Rattle.program.specs.Tables.{programIn}

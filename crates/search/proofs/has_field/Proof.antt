@@ -2,7 +2,6 @@
 use mathlib.Core.Path.{sym, ap, _∙_}
 use Prim.Native.Nat.{ℕ, _≤_, _<_}
 use native.Mathlib.Omega.{arith}
-use borrow.Author.Needs.{needs}
 use Rattle.program.specs.Program.{fieldCount}
 use Rattle.search.specs.Search.{below}
 use Rattle.program.specs.Tables.{programIn}

@@ -5,7 +5,6 @@ use mathlib.Core.Bool.{false}
 use Prim.Native.Nat.{ℕ, _≤_, _<_, _-_}
 use native.Mathlib.Omega.{arith}
 use borrow.Author.Count.{below-none, below-more}
-use borrow.Author.Needs.{needs}
 use Rattle.program.specs.Program.{methodCount}
 use Rattle.search.specs.Search.{answers}
 use Rattle.program.specs.Tables.{programIn}

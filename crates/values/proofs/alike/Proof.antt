@@ -1,5 +1,4 @@
 -- `values::alike` meets its contract. Assumes nothing.
-use borrow.Author.Needs.{needs}
 use Rattle.values.specs.Values.{alike}
 use Rattle.values.proofs.alike.Statement.{statement}
 use Rattle.values.proofs.alike.Tie as tie

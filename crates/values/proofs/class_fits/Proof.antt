@@ -1,5 +1,4 @@
 -- `values::class_fits` meets its contract. Assumes nothing.
-use borrow.Author.Needs.{needs}
 use Rattle.values.proofs.class_fits.Statement.{statement}
 use Rattle.values.proofs.class_fits.Tie as tie
 

@@ -1,5 +1,4 @@
 -- `values::field_fits` meets its contract. Assumes nothing.
-use borrow.Author.Needs.{needs}
 use Rattle.values.proofs.field_fits.Statement.{statement}
 use Rattle.values.proofs.field_fits.Tie as tie
 

@@ -1,5 +1,4 @@
 -- `values::handler_fits` meets its contract. Assumes nothing.
-use borrow.Author.Needs.{needs}
 use Rattle.values.proofs.handler_fits.Statement.{statement}
 use Rattle.values.proofs.handler_fits.Tie as tie
 

@@ -1,5 +1,4 @@
 -- `values::header_fits` meets its contract. Assumes nothing.
-use borrow.Author.Needs.{needs}
 use Rattle.values.proofs.header_fits.Statement.{statement}
 use Rattle.values.proofs.header_fits.Tie as tie
 

@@ -1,7 +1,6 @@
 -- `values::instruction_fits` meets its contract. Assumes nothing.
 use mathlib.Core.Path.{_≡_, sym, _∙_}
 use borrow.Author.Tests.{eq-eqb, ne-eqb}
-use borrow.Author.Needs.{needs}
 use Rattle.instruction.specs.Word.{wordOf}
 use Rattle.program.specs.Program.{wordAt, instructionAt}
 use Rattle.program.specs.Tables.{programIn}

@@ -2,7 +2,6 @@
 use mathlib.Core.Path.{_≡_, sym, ap, _∙_}
 use mathlib.Core.Bool.{true, false, not}
 use borrow.Author.Tests.{not-true, not-false}
-use borrow.Author.Needs.{needs}
 use Rattle.instruction.specs.Test.{passes}
 use Rattle.program.specs.Tables.{programIn}
 use Rattle.values.specs.Values.{instructionTest, lastTest, instructionMark}

@@ -1,5 +1,4 @@
 -- `values::limits_of` meets its contract: each field is the count of its thing. Assumes nothing.
-use borrow.Author.Needs.{needs}
 use Rattle.values.proofs.limits_of.Statement.{statement}
 use Rattle.values.proofs.limits_of.Tie as tie
 

@@ -1,5 +1,4 @@
 -- `values::method_fits` meets its contract. Assumes nothing.
-use borrow.Author.Needs.{needs}
 use Rattle.values.proofs.method_fits.Statement.{statement}
 use Rattle.values.proofs.method_fits.Tie as tie
 

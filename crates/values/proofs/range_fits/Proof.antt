@@ -1,5 +1,4 @@
 -- `values::range_fits` meets its contract. Assumes nothing.
-use borrow.Author.Needs.{needs}
 use Rattle.values.proofs.range_fits.Statement.{statement}
 use Rattle.values.proofs.range_fits.Tie as tie
 

@@ -5,7 +5,6 @@ use mathlib.Core.Bool.{false}
 use Prim.Native.Nat.{ℕ, _<_, _-_}
 use native.Mathlib.Omega.{arith}
 use borrow.Author.Count.{below-none, below-more}
-use borrow.Author.Needs.{needs}
 use Rattle.program.specs.Tables.{programIn}
 use Rattle.program.proofs.Lists.{first-stop, first-none}
 use Rattle.values.specs.Values.{alike, some?, repeated}

@@ -4,7 +4,6 @@ use native.Mathlib.Omega.{arith}
 use mir.Syntax.{w32}
 use mir.ValLaws.{toZ-ofZ}
 use Rattle.instruction.proofs.Numbers.{condition-small, operation-small, unary-small}
-use borrow.Author.Needs.{needs}
 use Rattle.instruction.proofs.word.encode.Statement.{statement}
 use Rattle.instruction.proofs.word.encode.Tie as tie
 

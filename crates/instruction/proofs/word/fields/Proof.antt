@@ -6,7 +6,6 @@ use mir.Syntax.{w32}
 use mir.ValLaws.{toZ-ofZ}
 use Rattle.instruction.specs.Word.{fieldsOf}
 use Rattle.instruction.proofs.Keys.{fails}
-use borrow.Author.Needs.{needs}
 use Rattle.instruction.proofs.word.fields.Statement.{statement}
 use Rattle.instruction.proofs.word.fields.Tie as tie
 
