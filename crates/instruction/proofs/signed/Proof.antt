@@ -3,36 +3,35 @@ use mathlib.Core.Path.{refl}
 use native.Mathlib.Omega.{arith}
 use Rattle.instruction.specs.Word.{signedOf}
 use Rattle.instruction.proofs.TwosComplement.{upper-fits, upper-is}
-use borrow.Author.Needs.{needs}
 use Rattle.instruction.proofs.signed.Statement.{statement}
 use Rattle.instruction.proofs.signed.Tie as tie
 
 mul-bits : tie.Need-mul-bits
-mul-bits c = search needs
+mul-bits c = omega arith
 
 add-bits : tie.Need-add-bits
-add-bits c = search needs
+add-bits c = omega arith
 
 mul-bits-2 : tie.Need-mul-bits-2
-mul-bits-2 c = search needs
+mul-bits-2 c = omega arith
 
 add-bits-2 : tie.Need-add-bits-2
-add-bits-2 c = search needs
+add-bits-2 c = omega arith
 
 mul-bits-3 : tie.Need-mul-bits-3
-mul-bits-3 c = search needs
+mul-bits-3 c = omega arith
 
 add-bits-3 : tie.Need-add-bits-3
-add-bits-3 c = search needs
+add-bits-3 c = omega arith
 
 cast-result : tie.Need-cast-result
-cast-result c = search needs
+cast-result c = omega arith
 
 sub-result : tie.Need-sub-result
-sub-result c = search needs
+sub-result c = omega arith
 
 cast-result-2 : tie.Need-cast-result-2
-cast-result-2 c = search needs
+cast-result-2 c = omega arith
 
 sub-result-2 : tie.Need-sub-result-2
 sub-result-2 c = upper-fits _ (c .if1 .left) (omega arith)

@@ -1,5 +1,5 @@
 -- `instruction::names_fit` meets its contract: each arm is told which instruction it has. Assumes nothing.
-use borrow.Author.Needs.{needs}
+use native.Mathlib.Omega.{arith}
 use Rattle.operands.proofs.names_fit.Statement.{statement}
 use Rattle.operands.proofs.names_fit.Tie as tie
 
@@ -16,25 +16,25 @@ enum-known-i-2 : tie.Need-enum-known-i-2
 enum-known-i-2 c = c .match .keys3
 
 cast-result : tie.Need-cast-result
-cast-result c = search needs
+cast-result c = omega arith
 
 enum-known-i-3 : tie.Need-enum-known-i-3
 enum-known-i-3 c = c .match .keys4
 
 cast-result-2 : tie.Need-cast-result-2
-cast-result-2 c = search needs
+cast-result-2 c = omega arith
 
 enum-known-i-4 : tie.Need-enum-known-i-4
 enum-known-i-4 c = c .match .keys5
 
 cast-both : tie.Need-cast-both
-cast-both c = search needs
+cast-both c = omega arith
 
 cast-both-2 : tie.Need-cast-both-2
-cast-both-2 c = search needs
+cast-both-2 c = omega arith
 
 cast-both-3 : tie.Need-cast-both-3
-cast-both-3 c = search needs
+cast-both-3 c = omega arith
 
 both-requires : tie.Need-both-requires
 both-requires c κs = tt
@@ -46,10 +46,10 @@ enum-known-i-5 : tie.Need-enum-known-i-5
 enum-known-i-5 c = c .match .keys6
 
 cast-both-4 : tie.Need-cast-both-4
-cast-both-4 c = search needs
+cast-both-4 c = omega arith
 
 cast-both-5 : tie.Need-cast-both-5
-cast-both-5 c = search needs
+cast-both-5 c = omega arith
 
 both-requires-3 : tie.Need-both-requires-3
 both-requires-3 c κs = tt
@@ -109,7 +109,7 @@ enum-known-i-14 : tie.Need-enum-known-i-14
 enum-known-i-14 c = c .match .keys15
 
 cast-both-6 : tie.Need-cast-both-6
-cast-both-6 c = search needs
+cast-both-6 c = omega arith
 
 arguments-fit-requires-2 : tie.Need-arguments-fit-requires-2
 arguments-fit-requires-2 c κs = tt
@@ -121,19 +121,19 @@ enum-known-i-15 : tie.Need-enum-known-i-15
 enum-known-i-15 c = c .match .keys16
 
 cast-result-3 : tie.Need-cast-result-3
-cast-result-3 c = search needs
+cast-result-3 c = omega arith
 
 enum-known-i-16 : tie.Need-enum-known-i-16
 enum-known-i-16 c = c .match .keys17
 
 cast-result-4 : tie.Need-cast-result-4
-cast-result-4 c = search needs
+cast-result-4 c = omega arith
 
 enum-known-i-17 : tie.Need-enum-known-i-17
 enum-known-i-17 c = c .match .keys18
 
 cast-result-5 : tie.Need-cast-result-5
-cast-result-5 c = search needs
+cast-result-5 c = omega arith
 
 enum-told-2 : tie.Need-enum-told-2
 enum-told-2 c = c .match .keys19
@@ -142,7 +142,7 @@ enum-known-i-18 : tie.Need-enum-known-i-18
 enum-known-i-18 c = c .match .keys20
 
 cast-result-6 : tie.Need-cast-result-6
-cast-result-6 c = search needs
+cast-result-6 c = omega arith
 
 enum-known-i-19 : tie.Need-enum-known-i-19
 enum-known-i-19 c = c .match .keys21

@@ -11,16 +11,16 @@ walk-requires : tie.Need-walk-requires
 walk-requires c κs = search needs
 
 refusal-requires : tie.Need-refusal-requires
-refusal-requires c κs = search needs
+refusal-requires c κs = tt
 
 returns-2 : tie.Need-returns-2
 returns-2 c = told-order (c .before .before .before .before .before .before .before .args .text .now) (c .before .before .before .before .before .before .before .args .t .now) (c .before .before .before .before .before .if1 .left) (c .before .before .before .walk .result) _ (c .refusal .result) (c .before .before .before .walk .ensures) (c .before .if2 .taken) (c .refusal .ensures)
 
 first-mark-requires : tie.Need-first-mark-requires
-first-mark-requires c κs = search needs
+first-mark-requires c κs = tt
 
 refusal-requires-2 : tie.Need-refusal-requires-2
-refusal-requires-2 c κs = search needs
+refusal-requires-2 c κs = tt
 
 returns-3 : tie.Need-returns-3
 returns-3 c = told-values (c .before .before .before .before .before .before .before .before .before .before .before .args .text .now) (c .before .before .before .before .before .before .before .before .before .before .before .args .t .now) (c .before .before .before .before .before .before .before .before .before .if1 .left) (c .before .before .before .before .before .before .before .walk .result) _ (c .before .before .before .before .before .before .before .walk .ensures) (c .before .before .before .before .before .if2 .left) (c .before .before .before .first-mark .result) (c .before .before .before .first-mark .ensures) (c .refusal2 .result) (c .before .if3 .taken) (c .refusal2 .ensures)

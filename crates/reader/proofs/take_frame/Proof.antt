@@ -1,8 +1,8 @@
 -- `reader::take_frame` meets its contract. Assumes nothing.
+use native.Mathlib.Omega.{arith}
 use Rattle.reader.proofs.Fields.{wrong-length, right-length}
 use Rattle.frame.specs.Frame.{kindOf}
 use mathlib.Core.Path.{sym, ap, _∙_}
-use borrow.Author.Needs.{needs}
 use Rattle.reader.proofs.take_frame.Statement.{statement}
 use Rattle.reader.proofs.take_frame.Tie as tie
 
@@ -19,10 +19,10 @@ returns : tie.Need-returns
 returns c = wrong-length (c .before .before .before .before .before .args .text .now) (c .before .before .before .before .before .args .at) (c .before .before .before .before .before .args .digits) (c .before .before .before .before .before .pre .0) (c .before .before .before .before .before .pre .1) (c .before .before .kind-of .result) (c .before .before .kind-of .ensures ∙ ap kindOf (c .before .before .before .number-at .ensures)) (c .before .before .before .before .before .args .n) (c .before .before .before .before .before .args .t .now) (λ e. c .if1 .taken (e ∙ sym (c .before .digits-of .ensures)))
 
 add-number-at : tie.Need-add-number-at
-add-number-at c = search needs
+add-number-at c = omega arith
 
 sub-number-at : tie.Need-sub-number-at
-sub-number-at c = search needs
+sub-number-at c = omega arith
 
 number-at-requires-2 : tie.Need-number-at-requires-2
 number-at-requires-2 c κs = tt

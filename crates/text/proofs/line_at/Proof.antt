@@ -4,7 +4,6 @@ use mathlib.Core.Bool.{and-false}
 use native.Mathlib.Omega.{arith}
 use lib.ListN.{length-drop}
 use borrow.Author.Tests.{lt-ltb, le-ltb, eq-eqb, ne-eqb}
-use borrow.Author.Needs.{needs}
 use Rattle.text.proofs.Lines.{no-text, ended-at, spoiled-at, end-inside}
 use Rattle.text.proofs.line_at.Statement.{statement}
 use Rattle.text.proofs.line_at.Tie as tie
@@ -16,7 +15,7 @@ run-requires : tie.Need-run-requires
 run-requires c κs = tt
 
 sub-if2 : tie.Need-sub-if2
-sub-if2 c = search needs
+sub-if2 c = omega arith
 
 returns-2 : tie.Need-returns-2
 returns-2 c =
@@ -25,10 +24,10 @@ returns-2 c =
     (spoiled-at _ _ _ (c .before .run .ensures) (c .before .before .if1 .left) (λ e. omega (arith, end-inside text _ e)))
 
 add-if3 : tie.Need-add-if3
-add-if3 c = search needs
+add-if3 c = omega arith
 
 shared-slice-read-if3 : tie.Need-shared-slice-read-if3
-shared-slice-read-if3 c = search needs
+shared-slice-read-if3 c = omega arith
 
 returns-3 : tie.Need-returns-3
 returns-3 c =

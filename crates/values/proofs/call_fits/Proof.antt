@@ -1,12 +1,12 @@
 -- `values::call_fits` meets its contract: one arm is told which instruction it has, and the other that it is not that one.
 -- Assumes nothing.
+use native.Mathlib.Omega.{arith}
 use mathlib.Core.Path.{_≡_, refl}
 use mathlib.Core.Bool.{true}
 use mathlib.Core.List.{List, [], _∷_}
 use Prim.Native.Nat.{ℕ}
 use denote.Enum.Declared.{tagOf}
 use types.Run.{OneOf, miss}
-use borrow.Author.Needs.{needs}
 use Rattle.instruction.specs.declared.Instruction.{Instruction}
 use Rattle.instruction.specs.declared.Instruction.the-variants.{Nop, Move, Const, Goto, If, IfZero, Binop, Unop, NewInstance, Iget, Iput, Sget, Sput, InvokeVirtual, InvokeStatic, MoveResult, MoveException, Return, ReturnVoid, Throw, InstanceOf, CheckCast}
 use Rattle.instruction.specs.Test.{passes}
@@ -51,10 +51,10 @@ returns : tie.Need-returns
 returns c = others _ (c .before .args .i) (c .match .keys2)
 
 cast-m : tie.Need-cast-m
-cast-m c = search needs
+cast-m c = omega arith
 
 cast-b : tie.Need-cast-b
-cast-b c = search needs
+cast-b c = omega arith
 
 method-kind-requires : tie.Need-method-kind-requires
 method-kind-requires c κs = tt

@@ -3,7 +3,6 @@ use mathlib.Core.Path.{_≡_}
 use Prim.Native.Nat.{_+_}
 use native.Mathlib.Omega.{arith}
 use borrow.Author.Tests.{ne-eqb}
-use borrow.Author.Needs.{needs}
 use Rattle.program.specs.Program.{codeLength}
 use Rattle.program.specs.Tables.{programIn}
 use Rattle.values.proofs.ends_badly.Statement.{statement}
@@ -13,7 +12,7 @@ code-length-requires : tie.Need-code-length-requires
 code-length-requires c κs = tt
 
 add-both : tie.Need-add-both
-add-both c = search needs
+add-both c = omega arith
 
 instruction-at-requires : tie.Need-instruction-at-requires
 instruction-at-requires c κs = tt

@@ -1,37 +1,37 @@
 -- `instruction::decode` meets its contract: what `signed` gives is stored and read back. Assumes nothing.
+use native.Mathlib.Omega.{arith}
 use mir.Syntax.{w32}
 use mir.ValLaws.{toZ-ofZ}
 use Rattle.instruction.specs.Word.{instructionOf}
-use borrow.Author.Needs.{needs}
 use Rattle.instruction.proofs.word.decode.Statement.{statement}
 use Rattle.instruction.proofs.word.decode.Tie as tie
 
 cast-o : tie.Need-cast-o
-cast-o c = search needs
+cast-o c = omega arith
 
 cast-a : tie.Need-cast-a
-cast-a c = search needs
+cast-a c = omega arith
 
 cast-b : tie.Need-cast-b
-cast-b c = search needs
+cast-b c = omega arith
 
 cast-c : tie.Need-cast-c
-cast-c c = search needs
+cast-c c = omega arith
 
 cast-d : tie.Need-cast-d
-cast-d c = search needs
+cast-d c = omega arith
 
 cast-x : tie.Need-cast-x
-cast-x c = search needs
+cast-x c = omega arith
 
 cast-y : tie.Need-cast-y
-cast-y c = search needs
+cast-y c = omega arith
 
 cast-z : tie.Need-cast-z
-cast-z c = search needs
+cast-z c = omega arith
 
 cast-u : tie.Need-cast-u
-cast-u c = search needs
+cast-u c = omega arith
 
 signed-requires : tie.Need-signed-requires
 signed-requires c κs = tt
