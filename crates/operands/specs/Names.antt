@@ -6,9 +6,9 @@ use Rattle.instruction.specs.declared.Instruction.the-variants.{Nop, Move, Cons
 use Rattle.instruction.specs.Test.{Test, always, under, most, _&_}
 
 -- the names of an instruction, at a method of l .registers registers and l .length instructions in a program of so many
--- classes, fields, statics and methods. A call's arguments stand in registers from c on: c + b of them at most; a virtual
--- call has at least one, its receiver. What a static call asks of its method's kind and argument count is asked where the
--- methods are at hand
+-- classes, fields, statics and methods. A call's b arguments stand "in registers from c on", so that c + b is at most the
+-- number of registers; a virtual call has at least one, its receiver. What a static call asks of its method's kind and
+-- argument count, and "c = 0 if b = 0", is asked where the methods are at hand
 abbrev pub named : Limits → Instruction → Test
 named l Nop = always
 named l (Move a b) = under a (l .registers) & under b (l .registers)
