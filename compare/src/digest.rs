@@ -1,5 +1,6 @@
-//! The answer to a text as one printed line, in lowercase hexadecimal.
+//! Answers as one printed line each, in lowercase hexadecimal.
 
+use crate::machine::{Answer, Report};
 use crate::program::Program;
 use crate::Refusal;
 
@@ -28,13 +29,26 @@ pub fn describe(answer: &Result<Program, Refusal>) -> String {
     }
 }
 
+/// The stepper's answer and a checksum of its memory: number, steps (or
+/// line), pending object plus one or 0, open frames, objects.
+pub fn describe_steps(answer: &Answer, memory: [&[u64]; 3]) -> String {
+    let (number, steps, pending, frames, objects) = match *answer {
+        Answer::Refused(Refusal { number, line }) => (number, u64::from(line), 0, 0, 0),
+        Answer::Started(Report { number, steps, pending, frames, objects }) => {
+            (number, steps, pending.map_or(0, |object| object + 1), frames, objects)
+        }
+    };
+    let sum = sum(memory.into_iter().flatten().copied());
+    format!("{number:02x} {steps:08x} {pending:03x} {frames:02x} {objects:03x} {sum:08x}")
+}
+
 /// A checksum over the bytes of the program's frames, in order.
 pub fn checksum(program: &Program) -> u32 {
-    let sum = program
-        .frames()
-        .concat()
-        .into_iter()
-        .fold(0, |sum, byte| (sum * FACTOR + u64::from(byte) + 1) % MODULUS);
+    sum(program.frames().concat().into_iter().map(u64::from))
+}
+
+fn sum(words: impl Iterator<Item = u64>) -> u32 {
+    let sum = words.fold(0, |sum, word| (sum * FACTOR + word % MODULUS + 1) % MODULUS);
     u32::try_from(sum).expect("the modulus is below 2^32")
 }
 
@@ -57,6 +71,17 @@ mod tests {
         }
         assert_eq!(u64::from(checksum(&program)), sum);
         assert_eq!(describe(&Ok(program)), format!("read 02 00 00 01 0001 0000 {sum:08x}"));
+    }
+
+    #[test]
+    fn steps_print_answer_and_memory() {
+        let answer =
+            Report { number: 33, steps: 4096, pending: Some(255), frames: 0, objects: 256 };
+        let line = describe_steps(&Answer::Started(answer), [&[], &[MODULUS + 1], &[3]]);
+        assert_eq!(line, "21 00001000 100 00 100 00000206");
+        let answer = Answer::Refused(Refusal::new(23, 0));
+        let line = describe_steps(&answer, [&[], &[], &[]]);
+        assert_eq!(line, "17 00000000 000 00 000 00000000");
     }
 
     #[test]

@@ -5,11 +5,13 @@ mod calls;
 mod combined;
 mod fields;
 mod lexical;
-mod mutations;
+pub(crate) mod mutations;
 mod operands;
 mod order;
-mod shapes;
+pub(crate) mod shapes;
 
+use crate::program::Program;
+use crate::random::Random;
 use crate::Refusal;
 use std::collections::HashSet;
 
@@ -46,6 +48,11 @@ impl Case {
     fn open(text: Vec<u8>) -> Case {
         Case { text, meant: None }
     }
+}
+
+/// A program with as many frames of each kind as there can be: 11,772 bytes.
+pub fn largest_program() -> Program {
+    shapes::program(&mut Random::new(9), &shapes::LARGEST)
 }
 
 /// All texts, each once: programs; values at their edges; faults of form,

@@ -1,16 +1,26 @@
 //! A second implementation of panel programs, to compare answers with.
 //!
 //! * [`program`]: the structured program, and its [`opcode`]s;
+//! * [`assembly`]: programs written down in Rust;
 //! * [`frame`]: one line of a text as bytes, and back;
 //! * [`reader`]: text to program, or the refusal (numbers 1 to 4 there,
 //!   numbers 5 and 6 in [`values`]);
-//! * [`digest`]: the answer to a text as one printed line;
-//! * [`generate`]: the texts that both implementations answer, with
-//!   [`random`] numbers where they are to be many.
+//! * [`machine`]: the stepper, and the run of a program;
+//! * [`digest`]: an answer as one printed line;
+//! * [`generate`]: the texts that both readers answer, with [`random`] numbers
+//!   where they are to be many;
+//! * [`generate_steps`]: the runs that both steppers make, and [`coverage`],
+//!   what they reach.
 
+#![forbid(unsafe_code)]
+
+pub mod assembly;
+pub mod coverage;
 pub mod digest;
 pub mod frame;
 pub mod generate;
+pub mod generate_steps;
+pub mod machine;
 pub mod opcode;
 pub mod program;
 pub mod random;
@@ -27,6 +37,8 @@ pub mod values;
 /// 4. a frame is out of order, one too many, or missing;
 /// 5. a field's value is not allowed;
 /// 6. a method's last instruction falls through.
+///
+/// And of the memory lent to the stepper: 23, there is too little.
 #[derive(Clone, Copy, Debug, PartialEq, Eq, PartialOrd, Ord)]
 pub struct Refusal {
     pub number: u8,

@@ -22,7 +22,7 @@ pub fn cases() -> Vec<Case> {
 }
 
 /// One to three bytes flipped, replaced, inserted or left out, or the end cut.
-fn change_bytes(random: &mut Random, mut text: Vec<u8>) -> Vec<u8> {
+pub fn change_bytes(random: &mut Random, mut text: Vec<u8>) -> Vec<u8> {
     for _ in 0..random.within(1..=3) {
         if text.is_empty() {
             return text;
@@ -47,7 +47,7 @@ fn digit(random: &mut Random) -> u8 {
 }
 
 /// One or two lines left out, repeated, swapped or moved, or the end cut.
-fn change_lines(random: &mut Random, mut frames: Vec<Vec<u8>>) -> Vec<u8> {
+pub fn change_lines(random: &mut Random, mut frames: Vec<Vec<u8>>) -> Vec<u8> {
     for _ in 0..random.within(1..=2) {
         if frames.is_empty() {
             break;
@@ -73,7 +73,7 @@ fn change_lines(random: &mut Random, mut frames: Vec<Vec<u8>>) -> Vec<u8> {
 }
 
 /// One to three bytes after the kind made another, most often a small one.
-fn change_values(random: &mut Random, mut frames: Vec<Vec<u8>>) -> Vec<u8> {
+pub fn change_values(random: &mut Random, mut frames: Vec<Vec<u8>>) -> Vec<u8> {
     for _ in 0..random.within(1..=3) {
         let number = random.below(frames.len());
         let frame = &mut frames[number];

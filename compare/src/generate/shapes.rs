@@ -18,7 +18,7 @@ pub struct Shape {
     pub handlers: RangeInclusive<usize>,
 }
 
-const LARGEST: Shape =
+pub const LARGEST: Shape =
     Shape { classes: 60, fields: 16, statics: 16, methods: 16, code: 32..=32, handlers: 8..=8 };
 
 pub fn cases() -> Vec<Case> {

@@ -7,8 +7,8 @@ use native.Mathlib.Omega.{arith}
 use borrow.Author.Tests.{le-ltb}
 use lib.Dec.{T, leb·zero}
 use lib.IntN.{ℤ, pos, negsuc, natAbs, _-ℤ_}
-use lib.Signed.{mag, leZ, nonNeg}
-use mir.Syntax.{w32}
+use lib.Signed.{mag, leZ, nonNeg, pos-natAbs}
+use mir.Syntax.{Width, w32}
 use mir.Val.{Fits, SFits, toZ, ofZ}
 use mir.ValLaws.{toZ-ofZ, toZ-pos, toZ-fits, ofZ-fits, half-full}
 
@@ -34,39 +34,42 @@ module _ (x : ℕ) (h : 2147483648 ≤ x) (k : x < 4294967296) where
       ap (toZ w32) (ap (ofZ w32) upper ∙ back)
 
 -- a number, stored and read back, fits as before
-pub again : {z : ℤ} → SFits w32 z → SFits w32 (toZ w32 (ofZ w32 z))
-again {z} f = toZ-fits w32 (ofZ w32 z) (ofZ-fits w32 z f)
+pub again : {w : Width} {z : ℤ} → SFits w z → SFits w (toZ w (ofZ w z))
+again {w} {z} f = toZ-fits w (ofZ w z) (ofZ-fits w z f)
 
 untrue : _≡_ {A = Bool} false true → ⊥
 untrue e = let z : _≡_ {A = ℕ} 0 1 = cc in omega arith
 
-not-below :
-    (z : ℤ) → SFits w32 z → leZ (pos 0) z ≡ true → (T (nonNeg z) × Fits w32 (natAbs z)) × (natAbs z ≡ ofZ w32 z)
-not-below (pos n) f e = ((tt, record { fits = half-full w32 (f .sfits) }), refl)
-not-below (negsuc n) f e = absurd (untrue e)
+not-below : (w : Width) (z : ℤ) → SFits w z → leZ (pos 0) z ≡ true → T (nonNeg z) × Fits w (natAbs z)
+not-below w (pos n) f e = (tt, record { fits = half-full w (f .sfits) })
+not-below w (negsuc n) f e = absurd (untrue e)
 
-below : (z : ℤ) → leZ (pos 0) z ≡ false → (negsuc 0 -ℤ z ≡ pos (mag z)) × (4294967295 - mag z ≡ ofZ w32 z)
+below : (z : ℤ) → leZ (pos 0) z ≡ false → (negsuc 0 -ℤ z ≡ pos (mag z)) × (negsuc (mag z) ≡ z)
 below (pos n) e = absurd (untrue (sym e ∙ leb·zero n))
-below (negsuc n) e = (below-neg n, omega arith)
+below (negsuc n) e = (below-neg n, refl)
 
--- the bits of a number z that is not below 0
-module _ (z : ℤ) (f : SFits w32 z) (e : leZ (pos 0) z ≡ true) where
-  pub cast-pos : T (nonNeg z) × Fits w32 (natAbs z)
-  cast-pos = not-below z f e .0
+-- 2 ^ 32 - 1 - n, as the bits of -1 - n
+pub turned : (n : ℕ) → 4294967295 - n ≡ 4294967296 - suc n
+turned n = omega arith
 
-  pub bits-pos : natAbs z ≡ ofZ w32 z
-  bits-pos = not-below z f e .1
+-- a number z that is not below 0, cast
+module _ (w : Width) (z : ℤ) (f : SFits w z) (e : leZ (pos 0) z ≡ true) where
+  pub cast-pos : T (nonNeg z) × Fits w (natAbs z)
+  cast-pos = not-below w z f e
 
--- the bits of a number z below 0, as 2 ^ 32 - 1 - (-1 - z)
-module _ (z : ℤ) (f : SFits w32 z) (e : leZ (pos 0) z ≡ false) where
-  pub minus-fits : SFits w32 (negsuc 0 -ℤ z)
+  pub is-pos : pos (natAbs z) ≡ z
+  is-pos = pos-natAbs z (cast-pos .0)
+
+-- a number z below 0: -1 - z, cast
+module _ (w : Width) (z : ℤ) (f : SFits w z) (e : leZ (pos 0) z ≡ false) where
+  pub minus-fits : SFits w (negsuc 0 -ℤ z)
   minus-fits = rw (below z e .0) (record { sfits = f .sfits })
 
-  back : toZ w32 (ofZ w32 (negsuc 0 -ℤ z)) ≡ pos (mag z)
-  back = toZ-ofZ w32 _ minus-fits ∙ below z e .0
+  back : toZ w (ofZ w (negsuc 0 -ℤ z)) ≡ pos (mag z)
+  back = toZ-ofZ w _ minus-fits ∙ below z e .0
 
-  pub cast-neg : T (nonNeg (toZ w32 (ofZ w32 (negsuc 0 -ℤ z)))) × Fits w32 (natAbs (toZ w32 (ofZ w32 (negsuc 0 -ℤ z))))
-  cast-neg = rw back (tt, record { fits = half-full w32 (f .sfits) })
+  pub cast-neg : T (nonNeg (toZ w (ofZ w (negsuc 0 -ℤ z)))) × Fits w (natAbs (toZ w (ofZ w (negsuc 0 -ℤ z))))
+  cast-neg = rw back (tt, record { fits = half-full w (f .sfits) })
 
-  pub bits-neg : 4294967295 - natAbs (toZ w32 (ofZ w32 (negsuc 0 -ℤ z))) ≡ ofZ w32 z
-  bits-neg = rw back (below z e .1)
+  pub is-neg : negsuc (natAbs (toZ w (ofZ w (negsuc 0 -ℤ z)))) ≡ z
+  is-neg = rw back (below z e .1)

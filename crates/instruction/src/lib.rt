@@ -1,7 +1,7 @@
 // The 21 instructions: an enum, the numbers of its conditions and operations, and what a signed field says.
 ghost use mathlib.Core.Path.{_≡_};
 ghost use mir.Syntax.{w32};
-ghost use mir.Val.{ofZ};
+ghost use mir.Val.{toZ, ofZ};
 ghost use Rattle.instruction.specs.Word.{signedOf, conditionOf, conditionNumber, operationOf, operationNumber, unaryOf, unaryNumber};
 
 mod word; // word.rt: the word that writes an instruction
@@ -134,15 +134,22 @@ pub fn signed(x: u8, y: u8, z: u8, u: u8) -> i32
     ensures value { λ r. ⌜ r ≡ signedOf x y z u ⌝ }
 {
     let bits = (((x as u32) * 256 + (y as u32)) * 256 + (z as u32)) * 256 + (u as u32);
-    if bits < 2147483648 {
-        bits as i32
+    number(bits)
+}
+
+// The signed number that 32 bits say.
+pub fn number(x: u32) -> i32
+    ensures value { λ r. ⌜ r ≡ toZ w32 x ⌝ }
+{
+    if x < 2147483648 {
+        x as i32
     } else {
-        -1 - ((4294967295 - bits) as i32)
+        -1 - ((4294967295 - x) as i32)
     }
 }
 
-// Its bits.
-fn bits(z: i32) -> u32
+// The bits of a signed number.
+pub fn bits(z: i32) -> u32
     ensures value { λ r. ⌜ r ≡ ofZ w32 z ⌝ }
 {
     if z >= 0 {

@@ -85,3 +85,13 @@ valuesOf (BadFrame line) = line ∷ []
 valuesOf (OutOfOrder line) = line ∷ []
 valuesOf (BadValue line) = line ∷ []
 valuesOf (FallsThrough line) = line ∷ []
+
+-- the line of a refusal, 0 where there is none
+abbrev pub lineOf : Answer → ℕ
+lineOf Read = 0
+lineOf TooLong = 0
+lineOf (BadLine line) = line
+lineOf (BadFrame line) = line
+lineOf (OutOfOrder line) = line
+lineOf (BadValue line) = line
+lineOf (FallsThrough line) = line

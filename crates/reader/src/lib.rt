@@ -9,7 +9,7 @@ ghost use lib.ListN.{length};
 ghost use Rattle.text.specs.Hex.{linesOf};
 ghost use Rattle.program.specs.Program.{noProgram};
 ghost use Rattle.program.specs.Tables.{tablesOf};
-ghost use Rattle.reader.specs.Read.{readLines, readProgram, readingNumber, readingValues, tablesAfter, numberOf, valuesOf};
+ghost use Rattle.reader.specs.Read.{readLines, readProgram, readingNumber, readingValues, tablesAfter, numberOf, valuesOf, lineOf};
 ghost use Rattle.reader.specs.Inside.{lineAt, framed, framedTables, Walked, answerOf};
 
 // What a text turned out to be. A refusal has its line; that of the length has line 0.
@@ -21,6 +21,36 @@ pub enum Answer {
     OutOfOrder(usize),
     BadValue(usize),
     FallsThrough(usize),
+}
+
+// Document 01's number of an answer, 0 for one that is no refusal.
+pub fn number_of(a: Answer) -> u8
+    ensures value { λ r. ⌜ r ≡ numberOf a ⌝ }
+{
+    match a {
+        Answer::Read => 0,
+        Answer::TooLong => 1,
+        Answer::BadLine(line) => 2,
+        Answer::BadFrame(line) => 3,
+        Answer::OutOfOrder(line) => 4,
+        Answer::BadValue(line) => 5,
+        Answer::FallsThrough(line) => 6,
+    }
+}
+
+// The line of an answer, 0 for one that is no refusal.
+pub fn line_of(a: Answer) -> usize
+    ensures value { λ r. ⌜ r ≡ lineOf a ⌝ }
+{
+    match a {
+        Answer::Read => 0,
+        Answer::TooLong => 0,
+        Answer::BadLine(line) => line,
+        Answer::BadFrame(line) => line,
+        Answer::OutOfOrder(line) => line,
+        Answer::BadValue(line) => line,
+        Answer::FallsThrough(line) => line,
+    }
 }
 
 // Takes the frame of a whole line, or tells why it cannot stand.

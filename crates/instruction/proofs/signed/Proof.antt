@@ -1,8 +1,9 @@
--- `instruction::signed` meets its contract: bits of 2 ^ 31 and more go by way of -1 - n. Assumes nothing.
-use mathlib.Core.Path.{refl}
+-- `instruction::signed` meets its contract. Assumes nothing.
+use mathlib.Core.Path.{_∙_}
 use native.Mathlib.Omega.{arith}
+use mir.Syntax.{w32}
+use mir.ValLaws.{toZ-ofZ}
 use Rattle.instruction.specs.Word.{signedOf}
-use Rattle.instruction.proofs.TwosComplement.{upper-fits, upper-is}
 use Rattle.instruction.proofs.signed.Statement.{statement}
 use Rattle.instruction.proofs.signed.Tie as tie
 
@@ -24,25 +25,12 @@ mul-bits-3 c = omega arith
 add-bits-3 : tie.Need-add-bits-3
 add-bits-3 c = omega arith
 
-cast-result : tie.Need-cast-result
-cast-result c = omega arith
-
-sub-result : tie.Need-sub-result
-sub-result c = omega arith
-
-cast-result-2 : tie.Need-cast-result-2
-cast-result-2 c = omega arith
-
-sub-result-2 : tie.Need-sub-result-2
-sub-result-2 c = upper-fits _ (c .if1 .left) (omega arith)
+number-requires : tie.Need-number-requires
+number-requires c κs = tt
 
 returns : tie.Need-returns
 unfolding signedOf
-returns c = refl
-
-returns-2 : tie.Need-returns-2
-unfolding signedOf
-returns-2 c = upper-is _ (c .if1 .left) (omega arith)
+returns c = toZ-ofZ w32 _ (record { sfits = c .number .ok }) ∙ c .number .ensures
 
 pub signed-spec : {M : Type 1} → statement M
 signed-spec =
@@ -54,9 +42,5 @@ signed-spec =
     add-bits-2
     mul-bits-3
     add-bits-3
-    cast-result
-    sub-result
-    cast-result-2
-    sub-result-2
-    returns
-    returns-2)
+    number-requires
+    returns)

@@ -1,0 +1,101 @@
+//! What the cases for the stepper reach, counted in cases.
+
+use crate::generate_steps::Case;
+use crate::machine::run::Machine;
+use crate::machine::state::{Limits, Stop};
+use crate::machine::{self, MAX_STEPS};
+use crate::opcode::{BINOP, IF, UNOP};
+use crate::program::{Instruction, Program};
+use crate::reader::read;
+use std::collections::{BTreeMap, BTreeSet};
+
+/// The number of cases that reach each thing.
+#[derive(Default)]
+pub struct Coverage {
+    pub reached: BTreeMap<String, usize>,
+    pub steps: u64,
+}
+
+/// The names of everything that is to be reached.
+pub fn wanted() -> Vec<String> {
+    let mut names = vec![];
+    for number in (1..=6).chain([20, 21, 22, 23, 32, 33]).chain(41..=48) {
+        names.push(format!("number {number}"));
+    }
+    names.extend((0..=0x14).map(|o| format!("opcode {o:02x}")));
+    names.extend((0..11).map(|d| format!("binop {d:02}")));
+    names.extend((0..2).map(|c| format!("unop {c}")));
+    for condition in 0..12 {
+        names.extend(["left", "taken"].map(|way| format!("if {condition:02} {way}")));
+    }
+    let pending = ["caught", "dropped frame", "22 with an object pending"];
+    names.extend(pending.map(String::from));
+    names
+}
+
+impl Coverage {
+    pub fn add(&mut self, case: &Case, number: u8) {
+        let mut reached = BTreeSet::from([format!("number {number}")]);
+        if let (Ok(program), true) = (read(&case.text), number >= 20 && number != 23) {
+            let stop = self.follow(&program, case.n.min(MAX_STEPS), &mut reached);
+            assert_eq!(machine::number(stop), number, "one step at a time");
+        }
+        for name in reached {
+            *self.reached.entry(name).or_default() += 1;
+        }
+    }
+
+    /// Makes the run again, one step at a time.
+    fn follow(&mut self, program: &Program, n: u64, reached: &mut BTreeSet<String>) -> Stop {
+        let mut machine = Machine::new(program, Limits::STEPPER);
+        let mut kinds = BTreeSet::new();
+        let stop = loop {
+            let instruction = current(program, &machine);
+            let (made, address) = (machine.steps, top_address(&machine));
+            let pending = machine.pending.is_some();
+            let stop = machine.run(n.min(made + 1));
+            if machine.steps > made {
+                if let (Some(i), false) = (instruction, pending) {
+                    let next = top_address(&machine) == address.map(|at| at + 1);
+                    let way = machine.end.is_none().then_some(if next { "left" } else { "taken" });
+                    kinds.insert((i.o, i.c, i.d as u8, way));
+                }
+                if pending {
+                    let caught = machine.pending.is_none();
+                    reached.insert(if caught { "caught" } else { "dropped frame" }.to_string());
+                }
+            }
+            if stop != Stop::StepsMade || machine.steps >= n {
+                break stop;
+            }
+        };
+        if machine.end.is_none() && machine.pending.is_some() {
+            reached.insert("22 with an object pending".to_string());
+        }
+        self.steps += machine.steps;
+        reached.extend(kinds.into_iter().flat_map(|(o, c, d, way)| names(o, c, d, way)));
+        stop
+    }
+}
+
+/// The names of an instruction; `way` is how a branch went, without fault.
+fn names(o: u8, c: u8, d: u8, way: Option<&str>) -> Vec<String> {
+    let mut names = vec![format!("opcode {o:02x}")];
+    match o {
+        BINOP => names.push(format!("binop {d:02}")),
+        UNOP => names.push(format!("unop {c}")),
+        IF => names.extend(way.map(|way| format!("if {c:02} {way}"))),
+        _ => {}
+    }
+    names
+}
+
+fn top_address(machine: &Machine) -> Option<u8> {
+    machine.frames.last().map(|frame| frame.address)
+}
+
+fn current(program: &Program, machine: &Machine) -> Option<Instruction> {
+    let frame = machine.frames.last()?;
+    let code = &program.methods[usize::from(frame.method)].code;
+    code.get(usize::from(frame.address)).copied()
+}

@@ -1,0 +1,80 @@
+-- The arithmetic of signed 32-bit numbers: Android's page "Dalvik bytecode", which document 01 lets decide it. What is quoted
+-- is the page's, with operands a and b, or document 01's where that is said. Definitions only.
+use mathlib.Core.Bool.{Bool, true, false, not}
+use Prim.Native.Nat.{ℕ, zero, suc, _*_, _-_, _/_, _%_, _^_}
+use lib.Bits.{bitAnd, bitOr, bitXor}
+use lib.Dec.{eqb}
+use lib.IntN.{ℤ, pos, negsuc, _+ℤ_, _-ℤ_, _*ℤ_}
+use lib.Signed.{ltZ, leZ, quotZ, remZ, shrZ}
+use mir.Syntax.{w32}
+use mir.Val.{toZ, ofZ}
+use Rattle.instruction.specs.Word.{pick}
+use Rattle.instruction.specs.declared.Condition.{Condition}
+use Rattle.instruction.specs.declared.Condition.the-variants.{Eq, Ne, Lt, Ge, Gt, Le}
+use Rattle.instruction.specs.declared.Operation.{Operation}
+use Rattle.instruction.specs.declared.Operation.the-variants.{Add, Sub, Mul, Div, Rem, And, Or, Xor, Shl, Shr, Ushr}
+use Rattle.instruction.specs.declared.Unary.{Unary}
+use Rattle.instruction.specs.declared.Unary.the-variants.{Neg, Not}
+use Rattle.arithmetic.specs.declared.Computed.{Computed}
+use Rattle.arithmetic.specs.declared.Computed.the-variants.{Number, ByZero}
+
+-- the lowest 32 bits of an integer, as a number below 2 ^ 32
+abbrev pub low : ℤ → ℕ
+low (pos n) = n % 2 ^ 32
+low (negsuc n) = 2 ^ 32 - suc (n % 2 ^ 32)
+
+-- "Twos-complement": the signed 32-bit number that is congruent to an integer modulo 2 ^ 32
+unfoldable pub wrapped : ℤ → ℤ
+wrapped z = toZ w32 (low z)
+
+-- "(b & 0x1f)": shifts use the low five bits of the count
+abbrev pub shiftCount : ℤ → ℕ
+shiftCount y = ofZ w32 y % 32
+
+-- whether a divisor is zero, where document 01 has "4 division by zero"
+abbrev pub isZero : ℤ → Bool
+isZero (pos zero) = true
+isZero (pos (suc n)) = false
+isZero (negsuc n) = false
+
+-- whether two numbers are the same
+abbrev pub sameNumber : ℤ → ℤ → Bool
+sameNumber (pos a) (pos b) = eqb a b
+sameNumber (pos a) (negsuc b) = false
+sameNumber (negsuc a) (pos b) = false
+sameNumber (negsuc a) (negsuc b) = eqb a b
+
+-- "add sub mul div rem and or xor shl shr ushr" of document 01
+unfoldable pub computed : Operation → ℤ → ℤ → Computed
+-- "Twos-complement addition", subtraction and multiplication
+computed Add x y = Number (wrapped (x +ℤ y))
+computed Sub x y = Number (wrapped (x -ℤ y))
+computed Mul x y = Number (wrapped (x *ℤ y))
+-- "Twos-complement division, rounded towards zero (that is, truncated to integer)"
+computed Div x y = pick (isZero y) ByZero (Number (wrapped (quotZ x y)))
+-- "Twos-complement remainder after division. The sign of the result is the same as that of a"
+computed Rem x y = pick (isZero y) ByZero (Number (wrapped (remZ x y)))
+-- "Bitwise AND", "Bitwise OR", "Bitwise XOR"
+computed And x y = Number (toZ w32 (bitAnd (ofZ w32 x) (ofZ w32 y)))
+computed Or x y = Number (toZ w32 (bitOr (ofZ w32 x) (ofZ w32 y)))
+computed Xor x y = Number (toZ w32 (bitXor (ofZ w32 x) (ofZ w32 y)))
+-- "Bitwise shift left", "signed shift right" and "unsigned shift right", each "(with masked argument)"
+computed Shl x y = Number (toZ w32 (ofZ w32 x * 2 ^ shiftCount y % 2 ^ 32))
+computed Shr x y = Number (shrZ x (2 ^ shiftCount y))
+computed Ushr x y = Number (toZ w32 (ofZ w32 x / 2 ^ shiftCount y))
+
+-- "neg" and "not" of document 01
+unfoldable pub unaryValue : Unary → ℤ → ℤ
+-- "Unary twos-complement"
+unaryValue Neg x = wrapped (pos 0 -ℤ x)
+-- "Unary ones-complement": each bit turned
+unaryValue Not x = toZ w32 (2 ^ 32 - 1 - ofZ w32 x)
+
+-- "eq ne lt ge gt le of a, b" of document 01
+unfoldable pub inOrder : Condition → ℤ → ℤ → Bool
+inOrder Eq x y = sameNumber x y
+inOrder Ne x y = not (sameNumber x y)
+inOrder Lt x y = ltZ x y
+inOrder Ge x y = leZ y x
+inOrder Gt x y = ltZ y x
+inOrder Le x y = leZ x y

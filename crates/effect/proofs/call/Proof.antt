@@ -1,0 +1,44 @@
+-- `effect::call` meets its contract. Assumes nothing.
+use native.Mathlib.Omega.{arith}
+use Rattle.turn.proofs.Growth.{call-turned, call-full}
+use borrow.Author.Needs.{needs}
+use Rattle.effect.proofs.call.Statement.{statement}
+use Rattle.effect.proofs.call.Tie as tie
+
+returns : tie.Need-returns
+returns c = λ pc ob st. call-full _ _ pc _ _ ob st _ _ (c .if1 .taken)
+
+skipped-requires : tie.Need-skipped-requires
+skipped-requires c κs = tt
+
+arguments-requires : tie.Need-arguments-requires
+arguments-requires c κs = tt
+
+cast-count : tie.Need-cast-count
+cast-count c = record { fits = omega (arith, c .arguments .ensures) }
+
+push-requires : tie.Need-push-requires
+push-requires c κs = tt
+
+add-t15 : tie.Need-add-t15
+add-t15 c = omega arith
+
+same-length : tie.Need-same-length
+same-length c = c .before .before .before .push .kept .0
+
+returns-2 : tie.Need-returns-2
+returns-2 c = λ pc ob st. rw (c .before .before .before .push .ensures, c .before .before .before .before .before .before .skipped .ensures, c .before .before .before .before .before .arguments .ensures)
+    (call-turned _ _ pc (c .before .before .before .before .before .before .before .before .before .before .args .tally) _ ob st _ _ (omega arith))
+
+pub call-spec : {M : Type 1} → statement M
+call-spec =
+    tie.close
+    (tie.spec
+    returns
+    skipped-requires
+    arguments-requires
+    cast-count
+    push-requires
+    add-t15
+    same-length
+    returns-2)

@@ -1,0 +1,12 @@
+-- Laws of the run: what an effect names exists, every state has its shape, the history, how it continues; and examples.
+pub mod Elements
+pub mod Found
+pub mod Fitting
+pub mod Parts
+pub mod Applied
+pub mod ShapedRun
+pub mod History
+pub mod Continues
+pub mod Programs
+pub mod Examples
+pub mod Faults

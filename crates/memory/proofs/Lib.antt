@@ -1,0 +1,4 @@
+pub mod Examples
+pub mod Places
+pub mod Values
+pub mod Words

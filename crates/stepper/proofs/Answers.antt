@@ -1,0 +1,98 @@
+-- What `step` answers, from what the reader answered and what the run left. Assumes nothing.
+use mathlib.Core.Path.{_≡_, refl, sym, ap, _∙_}
+use mathlib.Core.Bool.{Bool, true, false}
+use mathlib.Core.List.{List, [], _∷_}
+use Prim.Native.Nat.{ℕ, _≤_}
+use native.Mathlib.Omega.{arith}
+use lib.ListN.{length}
+use Rattle.text.proofs.Cases.{never}
+use Rattle.instruction.specs.Test.{most, _&_}
+use Rattle.instruction.proofs.Laws.{holds}
+use Rattle.program.specs.Program.{Program}
+use Rattle.program.specs.Tables.{tablesOf, programIn}
+use Rattle.program.proofs.Tables.{program-of-tables}
+use Rattle.reader.specs.declared.Answer.{Answer}
+use Rattle.reader.specs.declared.Answer.the-variants.{Read, TooLong, BadLine, BadFrame, OutOfOrder, BadValue, FallsThrough}
+use Rattle.reader.specs.Read.{Reading, refused, taken, readProgram, readingNumber, readingValues, tablesAfter, numberOf as readNumber, valuesOf as readValues, lineOf}
+use Rattle.reader.specs.Formed.{Formed}
+use Rattle.reader.proofs.WellFormed.{well-formed}
+use Rattle.turn.specs.Lies.{Lent, lent}
+use Rattle.stepper.specs.declared.Outcome.{Outcome}
+use Rattle.stepper.specs.declared.Outcome.the-variants.{Refused, Short}
+use Rattle.stepper.specs.Bounded.{bounded}
+use Rattle.stepper.specs.Step.{Stepping, turnedDown, short, ran, enough, steppingBy, stepping, steppingNumber, steppingValues, framesAfter, objectsAfter, staticsAfter, numberOf, valuesOf}
+use Rattle.stepper.specs.Inside.{Finished}
+
+-- the promise of `step`
+abbrev pub Answered : Stepping → Outcome → Lent → Lent → Type 0
+Answered x r before now =
+    ((numberOf r ≡ steppingNumber x) × (valuesOf r ≡ steppingValues x))
+    × ((now .frames ≡ framesAfter x (before .frames))
+    × (now .objects ≡ objectsAfter x (before .objects))
+    × (now .statics ≡ staticsAfter x (before .statics)))
+
+-- ---- the reader's answer
+
+line-is : (a : Answer) → (readNumber a ≡ 0 → ⊥) → readValues a ≡ lineOf a ∷ []
+line-is Read d = absurd (d refl)
+line-is TooLong d = refl
+line-is (BadLine line) d = refl
+line-is (BadFrame line) d = refl
+line-is (OutOfOrder line) d = refl
+line-is (BadValue line) d = refl
+line-is (FallsThrough line) d = refl
+
+turned-down : (x : Reading) (a : Answer) (n : ℕ) (room : Bool) → readNumber a ≡ readingNumber x → readValues a ≡ readingValues x
+    → (readNumber a ≡ 0 → ⊥) → steppingBy x n room ≡ turnedDown (readNumber a) (lineOf a)
+turned-down (refused number line) a n room e v d =
+    let l : lineOf a ∷ [] ≡ line ∷ [] = sym (line-is a d) ∙ v in
+    let k : lineOf a ≡ line = cc in
+    rw (e, k) refl
+turned-down (taken p) a n room e v d = absurd (d e)
+
+found-program : {P : Type 0} (x : Reading) (a : Answer) → readNumber a ≡ 0 → readValues a ≡ readingValues x → ((p : Program) → x ≡ taken p → P) → P
+found-program (taken p) a e v k = k p refl
+found-program (refused number line) Read e v k = never (cc)
+found-program (refused number line) TooLong e v k = never (sym e)
+found-program (refused number line) (BadLine l) e v k = absurd (omega arith)
+found-program (refused number line) (BadFrame l) e v k = absurd (omega arith)
+found-program (refused number line) (OutOfOrder l) e v k = absurd (omega arith)
+found-program (refused number line) (BadValue l) e v k = absurd (omega arith)
+found-program (refused number line) (FallsThrough l) e v k = absurd (omega arith)
+
+-- what is enough
+pub enough-is : (a b c : ℕ) → enough a b c ≡ true → (608 ≤ a) × (4352 ≤ b) × (16 ≤ c)
+enough-is a b c e =
+    let h = holds (most 608 a & (most 4352 b & most 16 c)) e in
+    (h .0, h .1 .0, h .1 .1)
+
+-- ---- the answers
+
+module _ (text : List ℕ) (n : ℕ) (before : Lent) (a : Answer) (e : readNumber a ≡ readingNumber (readProgram text)) (v : readValues a ≡ readingValues (readProgram text)) where
+  abbrev all : Stepping
+  all = stepping text n (before .frames) (before .objects) (before .statics)
+
+  pub refused-answers : (readNumber a ≡ 0 → ⊥) → Answered all (Refused (readNumber a) (lineOf a)) before before
+  unfolding stepping
+  refused-answers d =
+      rw (turned-down (readProgram text) a n (enough (length (before .frames)) (length (before .objects)) (length (before .statics))) e v d)
+      ((refl, refl), (refl, refl, refl))
+
+  pub short-answers : readNumber a ≡ 0 → enough (length (before .frames)) (length (before .objects)) (length (before .statics)) ≡ false → Answered all Short before before
+  unfolding stepping
+  short-answers z few =
+      found-program (readProgram text) a z v (λ p q. rw (q, few) ((refl, refl), (refl, refl, refl)))
+
+  pub ran-answers : readNumber a ≡ 0 → enough (length (before .frames)) (length (before .objects)) (length (before .statics)) ≡ true
+      → (tables t₀ : List ℕ) → tables ≡ tablesAfter (readProgram text) t₀
+      → (r : Outcome) (now : Lent) → (Formed (programIn tables) → Finished (bounded (programIn tables) n) before r now) → Answered all r before now
+  unfolding stepping
+  ran-answers z many tables t₀ w r now f =
+      found-program (readProgram text) a z v
+      (λ p q.
+      let formed = well-formed text p q in
+      let held : tables ≡ tablesOf p = w ∙ rw q refl in
+      let same : programIn tables ≡ p = rw held (program-of-tables p (formed .limited)) in
+      let done = f (rw same formed) in
+      let done-2 : Finished (bounded p n) before r now = rw same at done in
+      rw (q, many) ((done-2 .number, done-2 .values), (done-2 .frames, done-2 .objects, done-2 .statics)))

@@ -1,0 +1,3 @@
+pub mod Stop
+pub mod Lies
+pub mod Applied
