@@ -1,10 +1,10 @@
 // What programs in other languages link: functions on numbers and slices of numbers. docs/FORMATS.md says what each word means.
+use bounded::Outcome;
+use bounded::Pending;
 use machine::Fault;
-use stepper::Outcome;
-use stepper::Pending;
 use turn::Halt;
 ghost use mathlib.Core.Path.{_≡_};
-ghost use mathlib.Core.List.{[], _∷_};
+ghost use mathlib.Core.List.{_∷_};
 ghost use Prim.Native.Nat.{ℕ, _+_};
 ghost use lib.Dec.{leb};
 ghost use lib.ListN.{length, set};
@@ -12,7 +12,7 @@ ghost use Rattle.instruction.specs.Word.{pick};
 ghost use Rattle.reader.specs.Read.{readProgram, readingNumber};
 ghost use Rattle.machine.specs.State.{faultNumber};
 ghost use Rattle.turn.specs.Stop.{haltNumber};
-ghost use Rattle.stepper.specs.Step.{stepping, steppingNumber, steppingValues, framesAfter, objectsAfter, staticsAfter, numberOf, valuesOf, pendingValues};
+ghost use Rattle.bounded.specs.Step.{stepping, steppingNumber, steppingValues, framesAfter, objectsAfter, staticsAfter, numberOf, valuesOf, pendingValues};
 ghost use Rattle.capi.specs.Words.{pendingWord, answered};
 
 // The number of a program text: 0 where it is read, else its refusal's.

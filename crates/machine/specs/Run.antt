@@ -10,7 +10,7 @@ use Rattle.search.specs.declared.Handling.{Handling}
 use Rattle.search.specs.declared.Handling.the-variants.{Caught, Uncaught}
 use Rattle.search.specs.Search.{handlerFor}
 use Rattle.machine.specs.declared.Value.{Value}
-use Rattle.machine.specs.declared.Value.the-variants.{Number, Reference}
+use Rattle.machine.specs.declared.Value.the-variants.{Reference}
 use Rattle.machine.specs.declared.Effect.{Effect}
 use Rattle.machine.specs.declared.Effect.the-variants.{Next, Jump, Write, Load, LoadStatic, Make, Store, StoreStatic, Call, Exit, Raise, Fail}
 use Rattle.machine.specs.State.{Frame, Object, Status, running, raised, done, uncaught, failed, State, null, register, objectAt, cell, static, start}

@@ -3,7 +3,7 @@ use mathlib.Core.List.{List, [], _∷_}
 use Prim.Native.Nat.{ℕ}
 use lib.IntN.{pos}
 use lib.ListN.{getD, replicate}
-use Rattle.program.specs.Program.{Program, registers, fieldCount}
+use Rattle.program.specs.Program.{Program, registers}
 use Rattle.machine.specs.declared.Value.{Value}
 use Rattle.machine.specs.declared.Value.the-variants.{Number, Reference}
 use Rattle.machine.specs.declared.Fault.{Fault}

@@ -2,7 +2,7 @@
 // takes any words and any numbers; past the end a read is 0 and a write does nothing.
 use machine::Value;
 ghost use mathlib.Core.Path.{_≡_};
-ghost use Prim.Native.Nat.{ℕ, _+_};
+ghost use Prim.Native.Nat.{_+_};
 ghost use lib.ListN.{getD, set};
 ghost use Rattle.memory.specs.Memory.{valueWord, valueIn};
 ghost use Rattle.memory.specs.Writes.{framePlace, objectPlace, classIn, cleared, copied};

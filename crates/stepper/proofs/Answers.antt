@@ -1,5 +1,5 @@
 -- What `step` answers, from what the reader answered and what the run left. Assumes nothing.
-use mathlib.Core.Path.{_≡_, refl, sym, ap, _∙_}
+use mathlib.Core.Path.{_≡_, refl, sym, _∙_}
 use mathlib.Core.Bool.{Bool, true, false}
 use mathlib.Core.List.{List, [], _∷_}
 use Prim.Native.Nat.{ℕ, _≤_}
@@ -16,11 +16,11 @@ use Rattle.reader.specs.declared.Answer.the-variants.{Read, TooLong, BadLine, B
 use Rattle.reader.specs.Read.{Reading, refused, taken, readProgram, readingNumber, readingValues, tablesAfter, numberOf as readNumber, valuesOf as readValues, lineOf}
 use Rattle.reader.specs.Formed.{Formed}
 use Rattle.reader.proofs.WellFormed.{well-formed}
-use Rattle.turn.specs.Lies.{Lent, lent}
-use Rattle.stepper.specs.declared.Outcome.{Outcome}
-use Rattle.stepper.specs.declared.Outcome.the-variants.{Refused, Short}
-use Rattle.stepper.specs.Bounded.{bounded}
-use Rattle.stepper.specs.Step.{Stepping, turnedDown, short, ran, enough, steppingBy, stepping, steppingNumber, steppingValues, framesAfter, objectsAfter, staticsAfter, numberOf, valuesOf}
+use Rattle.turn.specs.Lies.{Lent}
+use Rattle.bounded.specs.declared.Outcome.{Outcome}
+use Rattle.bounded.specs.declared.Outcome.the-variants.{Refused, Short}
+use Rattle.bounded.specs.Bounded.{bounded}
+use Rattle.bounded.specs.Step.{Stepping, turnedDown, enough, steppingBy, stepping, steppingNumber, steppingValues, framesAfter, objectsAfter, staticsAfter, numberOf, valuesOf}
 use Rattle.stepper.specs.Inside.{Finished}
 
 -- the promise of `step`

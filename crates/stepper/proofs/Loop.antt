@@ -1,8 +1,6 @@
 -- The stepper's loop: what holds before each step, and at the end. Assumes nothing.
 use mathlib.Core.Path.{_≡_, refl, sym, ap, _∙_}
-use mathlib.Core.List.{List}
-use mathlib.Core.Option.{Option, none, some}
-use Prim.Native.Nat.{ℕ, zero, suc, _+_, _-_, _≤_, _<_, min}
+use Prim.Native.Nat.{ℕ, suc, _+_, _-_, _≤_, _<_, min}
 use native.Mathlib.Omega.{arith}
 use lib.ListN.{length}
 use Rattle.program.specs.Program.{Program}
@@ -20,9 +18,9 @@ use Rattle.turn.specs.Stop.{stopOf}
 use Rattle.turn.specs.Lies.{statusOf, Lent, Lies, Turned}
 use Rattle.memory.specs.Writes.{cleared}
 use Rattle.turn.proofs.Laid.{frames-laid, objects-laid, statics-laid, start-lies}
-use Rattle.stepper.specs.declared.Outcome.{Outcome}
-use Rattle.stepper.specs.Bounded.{continued, atLimit, steps, bounded}
-use Rattle.stepper.specs.Step.{pendingIn, pendingValues, valuesOf}
+use Rattle.bounded.specs.declared.Outcome.{Outcome}
+use Rattle.bounded.specs.Bounded.{continued, atLimit, steps, bounded}
+use Rattle.bounded.specs.Step.{pendingIn, pendingValues}
 use Rattle.stepper.specs.Inside.{limitHalt, pendingOf, reported, Finished}
 
 -- k of n steps are made from s, and the state that they led to lies in memory

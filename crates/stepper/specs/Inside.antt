@@ -10,12 +10,12 @@ use Rattle.turn.specs.declared.Status.the-variants.{Running, Raised, Done, Unca
 use Rattle.turn.specs.declared.Tally.{Tally}
 use Rattle.turn.specs.Stop.{haltNumber}
 use Rattle.turn.specs.Lies.{Lent}
-use Rattle.stepper.specs.declared.Outcome.{Outcome}
-use Rattle.stepper.specs.declared.Outcome.the-variants.{Ran}
-use Rattle.stepper.specs.declared.Pending.{Pending}
-use Rattle.stepper.specs.declared.Pending.the-variants.{Nothing, Object}
-use Rattle.stepper.specs.Bounded.{Stopped}
-use Rattle.stepper.specs.Step.{numberOf, valuesOf, stoppedValues}
+use Rattle.bounded.specs.declared.Outcome.{Outcome}
+use Rattle.bounded.specs.declared.Outcome.the-variants.{Ran}
+use Rattle.bounded.specs.declared.Pending.{Pending}
+use Rattle.bounded.specs.declared.Pending.the-variants.{Nothing, Object}
+use Rattle.bounded.specs.Bounded.{Stopped}
+use Rattle.bounded.specs.Step.{numberOf, valuesOf, stoppedValues}
 
 -- at n steps
 abbrev pub limitHalt : Status → Halt

@@ -1,43 +1,22 @@
 // The stepper: runs a program text for at most n steps, in memory that the caller lends.
+use bounded::Outcome;
+use bounded::Pending;
 use turn::Halt;
 use turn::Status;
 use turn::Tally;
 use turn::Turn;
 ghost use mathlib.Core.Path.{_≡_};
-ghost use Prim.Native.Nat.{ℕ, min, _≤_};
+ghost use Prim.Native.Nat.{min, _≤_};
 ghost use lib.ListN.{length};
 ghost use Rattle.program.specs.Tables.{programIn};
 ghost use Rattle.reader.specs.Formed.{Formed};
-ghost use Rattle.machine.specs.State.{State, start};
+ghost use Rattle.machine.specs.State.{State};
 ghost use Rattle.machine.specs.Shaped.{Shaped};
 ghost use Rattle.turn.specs.declared.Status.the-variants.{Running};
 ghost use Rattle.turn.specs.Lies.{Lent, lent, Lies};
-ghost use Rattle.stepper.specs.Bounded.{steps, bounded};
-ghost use Rattle.stepper.specs.Step.{stepping, steppingNumber, steppingValues, framesAfter, objectsAfter, staticsAfter, enough, numberOf, valuesOf};
+ghost use Rattle.bounded.specs.Bounded.{steps, bounded};
+ghost use Rattle.bounded.specs.Step.{stepping, steppingNumber, steppingValues, framesAfter, objectsAfter, staticsAfter, enough, numberOf, valuesOf};
 ghost use Rattle.stepper.specs.Inside.{limitHalt, pendingOf, reported, Finished};
-
-// The object that is pending, if there is one.
-pub enum Pending {
-    Nothing,
-    Object(u32),
-}
-
-// What became of a text: it is refused, memory falls short, or the program ran and stopped, with the steps made, how many
-// frames are open, how many objects are made, and the pending object.
-pub enum Outcome {
-    Refused {
-        number: u8,
-        line: usize,
-    },
-    Short,
-    Ran {
-        halt: Halt,
-        steps: u64,
-        frames: u8,
-        objects: u32,
-        pending: Pending,
-    },
-}
 
 fn at_limit(status: Status) -> Halt
     ensures value { λ r. ⌜ r ≡ limitHalt status ⌝ }

@@ -1,33 +1,27 @@
 -- Effects in memory, one law an effect. Assumes nothing.
 use mathlib.Core.Path.{_≡_, refl, sym, ap, _∙_}
-use mathlib.Core.List.{List, [], _∷_}
-use mathlib.Core.Option.{none, some}
-use Prim.Native.Nat.{ℕ, zero, suc, _+_, _*_, _-_, _≤_, _<_}
+use mathlib.Core.List.{List, _∷_}
+use Prim.Native.Nat.{ℕ, suc, _+_, _-_, _≤_, _<_}
 use native.Mathlib.Decide.{decLt}
 use native.Mathlib.Omega.{arith}
 use lib.ListN.{length, getD, set, length-set, List·getD-eq-default}
-use borrow.Author.Tests.{lt-ltb, le-ltb, eq-eqb, ne-eqb}
-use Rattle.program.specs.Program.{Program, noMethod, methodCount, registers, arguments, fieldCount}
+use Rattle.program.specs.Program.{Program, noMethod, methodCount, registers}
 use Rattle.reader.specs.Formed.{Formed}
 use Rattle.machine.specs.declared.Value.{Value}
-use Rattle.machine.specs.declared.Value.the-variants.{Number, Reference}
-use Rattle.machine.specs.declared.Fault.{Fault}
 use Rattle.machine.specs.declared.Effect.{Effect}
-use Rattle.machine.specs.declared.Effect.the-variants.{Next, Jump, Write, Load, LoadStatic, Make, Store, StoreStatic, Call, Exit, Raise, Fail}
-use Rattle.machine.specs.State.{Frame, State, running, raised, failed, null, noObject, cell, static}
-use Rattle.machine.specs.Run.{moved, wrote, fresh, stored, withFrames, apply}
-use Rattle.machine.specs.Shaped.{Shaped, ShapedFrame, Fitting}
+use Rattle.machine.specs.declared.Effect.the-variants.{Next, Jump, Write, Load, LoadStatic, Store, StoreStatic}
+use Rattle.machine.specs.State.{Frame, State, noObject, cell, static}
+use Rattle.machine.specs.Run.{moved, wrote, stored, withFrames}
+use Rattle.machine.specs.Shaped.{ShapedFrame}
 use Rattle.machine.proofs.Fitting.{top-shaped}
 use Rattle.memory.specs.Memory.{valueWord, valueIn}
 use Rattle.memory.specs.Writes.{framePlace, objectPlace}
 use Rattle.turn.specs.declared.Tally.{Tally}
-use Rattle.turn.specs.declared.Turn.the-variants.{Went, Stopped}
-use Rattle.turn.specs.declared.Halt.the-variants.{FullStore, FullStack}
-use Rattle.turn.specs.declared.Status.the-variants.{Running, Raised, Failed}
-use Rattle.turn.specs.Lies.{Held, FramesLie, ObjectsLie, Lent, lent, Lies}
-use Rattle.turn.specs.Applied.{wroteWords, calledWords, withStatus, oneMade, oneOpen, Standing, Applied}
-use Rattle.turn.proofs.Top.{moved-frames, wrote-frames, entered-frames}
-use Rattle.turn.proofs.Objects.{object-made, object-stored, static-stored}
+use Rattle.turn.specs.declared.Turn.the-variants.{Went}
+use Rattle.turn.specs.Lies.{Held, FramesLie, Lent, lent, Lies}
+use Rattle.turn.specs.Applied.{wroteWords, Standing, Applied}
+use Rattle.turn.proofs.Top.{moved-frames, wrote-frames}
+use Rattle.turn.proofs.Objects.{object-stored, static-stored}
 
 -- what a function wrote reads back
 pub held : (v : Value) → valueIn (valueWord v) ≡ v → Held (valueWord v) v

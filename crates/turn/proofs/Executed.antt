@@ -1,8 +1,8 @@
 -- A step of a running state, and of one with an object pending, in memory. Assumes nothing.
 use mathlib.Core.Path.{_≡_, refl, sym, ap, _∙_}
-use mathlib.Core.List.{List, [], _∷_}
-use mathlib.Core.Option.{Option, none, some}
-use Prim.Native.Nat.{ℕ, zero, suc, _+_, _≤_, _<_}
+use mathlib.Core.List.{List, _∷_}
+use mathlib.Core.Option.{none}
+use Prim.Native.Nat.{ℕ, zero, suc, _+_, _<_}
 use native.Mathlib.Omega.{arith}
 use lib.ListN.{length, getD}
 use borrow.Author.Tests.{lt-ltb}
@@ -12,7 +12,6 @@ use Rattle.search.specs.declared.Handling.{Handling}
 use Rattle.search.specs.declared.Handling.the-variants as handling
 use Rattle.search.specs.Search.{handlerFor}
 use Rattle.values.specs.Values.{limitsOf}
-use Rattle.reader.specs.Formed.{Formed}
 use Rattle.machine.specs.declared.Value.{Value}
 use Rattle.machine.specs.declared.Value.the-variants.{Number, Reference}
 use Rattle.machine.specs.declared.Effect.{Effect}
@@ -23,15 +22,15 @@ use Rattle.machine.specs.Shaped.{Known, Shaped}
 use Rattle.machine.proofs.Fitting.{method-exists, top-shaped, decided-fits}
 use Rattle.decide.specs.Slots.{slot, firstSlot, secondSlot}
 use Rattle.memory.specs.Memory.{valueWord, valueIn}
-use Rattle.memory.specs.Writes.{framePlace, objectPlace, classIn, cleared}
+use Rattle.memory.specs.Writes.{framePlace, classIn, cleared}
 use Rattle.turn.specs.declared.Tally.{Tally}
 use Rattle.turn.specs.declared.Turn.{Turn}
-use Rattle.turn.specs.declared.Turn.the-variants.{Went, Stopped}
+use Rattle.turn.specs.declared.Turn.the-variants.{Went}
 use Rattle.turn.specs.declared.Status.the-variants.{Running, Raised, Uncaught}
 use Rattle.turn.specs.declared.Whereabouts.the-variants.{Inside}
 use Rattle.turn.specs.Stop.{room, stopBy, stopOf}
-use Rattle.turn.specs.Lies.{FramesLie, Lent, lent, Lies, Turned}
-use Rattle.turn.specs.Applied.{whereIn, resultWords, withStatus, leaving, Standing, Applied, Stepped}
+use Rattle.turn.specs.Lies.{Lent, lent, Lies, Turned}
+use Rattle.turn.specs.Applied.{whereIn, resultWords, withStatus, leaving, Applied, Stepped}
 use Rattle.turn.proofs.Top.{top-lies}
 use Rattle.turn.proofs.Effects.{held, registers-few}
 use Rattle.turn.proofs.Leave.{dropped-lies, caught-lies}

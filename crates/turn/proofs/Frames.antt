@@ -1,24 +1,20 @@
 -- Frames in memory: what stands there after a write. Assumes nothing.
-use mathlib.Core.Path.{_≡_, refl, sym, ap, _∙_}
-use mathlib.Core.Bool.{Bool, true, false}
+use mathlib.Core.Path.{_≡_, refl, sym, _∙_}
 use mathlib.Core.List.{List, [], _∷_}
-use Prim.Native.Nat.{ℕ, zero, suc, _+_, _*_, _-_, _≤_, _<_}
+use Prim.Native.Nat.{ℕ, zero, suc, _+_, _-_, _≤_, _<_}
 use native.Mathlib.Decide.{ℕ-discrete, decLt}
 use native.Mathlib.Omega.{arith}
-use lib.Dec.{eqb}
-use lib.ListN.{length, getD, set, length-set, List·getD-eq-default}
+use lib.ListN.{length, getD, set}
 use lib.Seq.{getD-set-same, getD-set-other}
 use borrow.Author.Tests.{eq-eqb, ne-eqb}
-use Rattle.machine.specs.declared.Value.{Value}
-use Rattle.machine.specs.State.{Frame, null, noFrame, register}
+use Rattle.machine.specs.State.{Frame, noFrame}
 use Rattle.machine.specs.Shaped.{Every}
-use Rattle.machine.specs.Run.{moved, wrote, resumed}
+use Rattle.machine.specs.Run.{moved}
 use Rattle.decide.specs.Slots.{slot}
-use Rattle.memory.specs.Memory.{valueWord, valueIn, frameAt}
-use Rattle.memory.specs.Writes.{framePlace, cleared}
-use Rattle.memory.proofs.Words.{cleared-in}
+use Rattle.memory.specs.Memory.{valueIn, frameAt}
+use Rattle.memory.specs.Writes.{framePlace}
 use Rattle.turn.specs.Lies.{Held, FrameLies, FramesLie, Waiting}
-use Rattle.turn.proofs.Only.{Only, only-then, only-set, only-cleared}
+use Rattle.turn.proofs.Only.{Only}
 
 -- ---- one frame
 

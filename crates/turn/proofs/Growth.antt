@@ -1,31 +1,29 @@
 -- Effects that make an object, open or leave a frame, or change the status, in memory. Assumes nothing.
 use mathlib.Core.Path.{_≡_, refl, sym, ap, _∙_}
 use mathlib.Core.List.{List, [], _∷_, _++_}
-use mathlib.Core.Option.{none, some}
-use Prim.Native.Nat.{ℕ, zero, suc, _+_, _*_, _-_, _≤_, _<_}
+use Prim.Native.Nat.{ℕ, _+_, _-_, _≤_, _<_}
 use native.Mathlib.Omega.{arith}
-use lib.ListN.{length, getD, set, length-append}
-use borrow.Author.Tests.{lt-ltb, le-ltb, eq-eqb, ne-eqb}
-use Rattle.program.specs.Program.{Program, registers, arguments, fieldCount}
+use lib.ListN.{length, set, length-append}
+use borrow.Author.Tests.{lt-ltb, le-ltb}
+use Rattle.program.specs.Program.{Program, fieldCount}
 use Rattle.machine.specs.declared.Value.{Value}
-use Rattle.machine.specs.declared.Value.the-variants.{Number, Reference}
+use Rattle.machine.specs.declared.Value.the-variants.{Reference}
 use Rattle.machine.specs.declared.Fault.{Fault}
-use Rattle.machine.specs.declared.Effect.{Effect}
-use Rattle.machine.specs.declared.Effect.the-variants.{Make, Call, Exit, Raise, Fail}
-use Rattle.machine.specs.State.{Frame, State, null, noObject}
-use Rattle.machine.specs.Run.{fresh, entered}
+use Rattle.machine.specs.declared.Effect.the-variants.{Make, Call, Raise, Fail}
+use Rattle.machine.specs.State.{null}
+use Rattle.machine.specs.Run.{fresh}
 use Rattle.machine.proofs.Elements.{replicate-at}
 use Rattle.memory.specs.Memory.{valueWord, valueIn}
-use Rattle.memory.specs.Writes.{framePlace, objectPlace, cleared}
+use Rattle.memory.specs.Writes.{objectPlace}
 use Rattle.turn.specs.declared.Tally.{Tally}
 use Rattle.turn.specs.declared.Turn.the-variants.{Went, Stopped}
 use Rattle.turn.specs.declared.Halt.the-variants.{FullStore, FullStack}
-use Rattle.turn.specs.declared.Status.the-variants.{Running, Raised, Done, Failed}
-use Rattle.turn.specs.Lies.{Lent, lent, Lies}
-use Rattle.turn.specs.Applied.{wroteWords, calledWords, exitedWords, following, withStatus, oneMade, oneOpen, leaving, Standing, Applied}
+use Rattle.turn.specs.declared.Status.the-variants.{Raised, Failed}
+use Rattle.turn.specs.Lies.{lent}
+use Rattle.turn.specs.Applied.{wroteWords, calledWords, withStatus, oneMade, oneOpen, Applied}
 use Rattle.turn.proofs.Top.{entered-frames}
 use Rattle.turn.proofs.Objects.{object-made}
-use Rattle.turn.proofs.Effects.{held, registers-few, frames-lie, top-frame, few-registers, wrote-lies}
+use Rattle.turn.proofs.Effects.{held, registers-few, frames-lie, few-registers, wrote-lies}
 
 module _ (p : Program) (top pc : ℕ) (t : Tally) (fr ob st : List ℕ) where
   -- ---- new-instance

@@ -1,20 +1,19 @@
 -- Memory in which a state lies is what the definitions say, word by word; and the state at the start lies in cleared memory.
 -- Assumes nothing.
-use mathlib.Core.Path.{_≡_, refl, sym, ap, _∙_}
-use mathlib.Core.Bool.{true, false}
-use mathlib.Core.List.{List, [], _∷_}
-use Prim.Native.Nat.{ℕ, zero, suc, _+_, _*_, _-_, _/_, _%_, _≤_, _<_}
+use mathlib.Core.Path.{_≡_, refl, sym, _∙_}
+use mathlib.Core.List.{List, []}
+use Prim.Native.Nat.{ℕ, zero, suc, _+_, _-_, _/_, _%_, _≤_, _<_}
 use native.Mathlib.Omega.{arith}
 use lib.Dec.{ltb, eqb}
 use lib.ListN.{length, getD, replicate}
-use borrow.Author.Tests.{lt-ltb, le-ltb, ltb-true, ltb-false, eqb-true, eqb-false, eq-eqb, ne-eqb}
+use borrow.Author.Tests.{ltb-true, ltb-false, eqb-true, eqb-false}
 use Rattle.text.proofs.Cases.{by-test}
 use Rattle.instruction.specs.Word.{pick}
 use Rattle.program.specs.Lists.{tab}
 use Rattle.program.specs.Program.{Program, registers}
 use Rattle.program.proofs.Lists.{tab-cong, tab-getD}
 use Rattle.machine.specs.declared.Value.{Value}
-use Rattle.machine.specs.State.{Frame, Object, State, null, noFrame, noObject, objectAt, static, start}
+use Rattle.machine.specs.State.{Frame, Object, State, null, objectAt, static, start}
 use Rattle.machine.proofs.Elements.{replicate-at}
 use Rattle.decide.specs.Slots.{slot}
 use Rattle.memory.specs.Memory.{valueWord, frameWord, objectWord, frameAt, framesOf, objectsOf, staticsOf}
@@ -22,7 +21,7 @@ use Rattle.memory.specs.Writes.{framePlace, objectPlace, cleared}
 use Rattle.memory.proofs.Words.{length-cleared, cleared-in, cleared-after}
 use Rattle.turn.specs.declared.Tally.{Tally}
 use Rattle.turn.specs.declared.Status.the-variants.{Running}
-use Rattle.turn.specs.Lies.{Held, FrameLies, FramesLie, ObjectLies, ObjectsLie, StaticsLie, Lent, lent, Lies}
+use Rattle.turn.specs.Lies.{Held, FrameLies, ObjectLies, Lent, lent, Lies}
 use Rattle.turn.proofs.Frames.{no-frame}
 use Rattle.turn.proofs.Objects.{held-null, no-object}
 

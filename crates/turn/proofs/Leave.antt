@@ -1,15 +1,14 @@
 -- A frame that is left, and a pending object, in memory. Assumes nothing.
-use mathlib.Core.Path.{_≡_, refl, sym, ap, _∙_}
+use mathlib.Core.Path.{_≡_, refl, ap, _∙_}
 use mathlib.Core.List.{List, [], _∷_}
-use Prim.Native.Nat.{ℕ, zero, suc, _+_, _*_, _-_, _≤_, _<_}
+use Prim.Native.Nat.{ℕ, suc, _+_, _-_}
 use native.Mathlib.Omega.{arith}
 use lib.Dec.{eqb}
-use lib.ListN.{length, getD, set}
-use borrow.Author.Tests.{lt-ltb, eq-eqb, ne-eqb}
+use lib.ListN.{length, getD}
+use borrow.Author.Tests.{lt-ltb, ne-eqb}
 use Rattle.instruction.specs.Word.{pick}
 use Rattle.program.specs.Program.{Program}
 use Rattle.machine.specs.declared.Value.{Value}
-use Rattle.machine.specs.declared.Value.the-variants.{Reference}
 use Rattle.machine.specs.declared.Effect.the-variants.{Exit}
 use Rattle.machine.specs.State.{Frame, State}
 use Rattle.machine.specs.Run.{resumed, withFrames, returned, dropped}
@@ -19,7 +18,7 @@ use Rattle.turn.specs.declared.Tally.{Tally}
 use Rattle.turn.specs.declared.Turn.the-variants.{Went}
 use Rattle.turn.specs.declared.Status.the-variants.{Running, Raised, Done, Uncaught}
 use Rattle.turn.specs.Lies.{Held, FramesLie, statusOf, Lent, lent, Lies}
-use Rattle.turn.specs.Applied.{following, resultWords, exitedWords, withStatus, leaving, Standing, Applied}
+use Rattle.turn.specs.Applied.{resultWords, exitedWords, withStatus, leaving, Applied}
 use Rattle.turn.proofs.Top.{top-lies, resumed-frames, dropped-frames}
 use Rattle.turn.proofs.Effects.{held}
 

@@ -1,6 +1,5 @@
 -- What an instruction of a well-formed program looks at stands in the frame's words. Assumes nothing.
-use mathlib.Core.Path.{_≡_, refl}
-use Prim.Native.Nat.{ℕ, suc, _+_, _≤_, _<_}
+use Prim.Native.Nat.{_≤_, _<_}
 use native.Mathlib.Omega.{arith}
 use Rattle.operands.specs.declared.Limits.{Limits}
 use Rattle.instruction.specs.declared.Instruction.{Instruction}

@@ -1,22 +1,19 @@
 -- A whole step in memory: where the top frame is, what its instruction looks at and does, what a pending object does. Assumes
 -- nothing.
 use mathlib.Core.Path.{_≡_, refl, sym, ap, _∙_}
-use mathlib.Core.Bool.{Bool, true, false}
+use mathlib.Core.Bool.{false}
 use mathlib.Core.List.{List, [], _∷_}
-use mathlib.Core.Option.{Option, none, some}
-use Prim.Native.Nat.{ℕ, zero, suc, _+_, _*_, _-_, _≤_, _<_}
+use mathlib.Core.Option.{some}
+use Prim.Native.Nat.{ℕ, suc, _-_, _<_}
 use native.Mathlib.Omega.{arith}
-use lib.Dec.{ltb, eqb}
-use lib.ListN.{length, getD, set}
-use borrow.Author.Tests.{lt-ltb, le-ltb, ltb-true, ltb-false, eq-eqb, ne-eqb}
+use lib.Dec.{ltb}
+use lib.ListN.{length}
+use borrow.Author.Tests.{ltb-true, ne-eqb}
 use Rattle.text.proofs.Cases.{by-test, never}
-use Rattle.instruction.specs.Word.{pick}
 use Rattle.program.specs.Program.{Program, codeLength}
 use Rattle.machine.specs.declared.Fault.{Fault}
 use Rattle.machine.specs.State.{Frame, Status, running, raised, done, uncaught, failed, State}
-use Rattle.memory.specs.Writes.{framePlace}
 use Rattle.turn.specs.declared.Tally.{Tally}
-use Rattle.turn.specs.declared.Whereabouts.{Whereabouts}
 use Rattle.turn.specs.declared.Whereabouts.the-variants.{Inside, Outside}
 use Rattle.turn.specs.declared.Halt.the-variants as halt
 use Rattle.turn.specs.Stop.{stopBy, stopOf}

@@ -1,9 +1,8 @@
 -- The top frame in memory: after it goes on, is written, takes a result, calls or is dropped. Assumes nothing.
 use mathlib.Core.Path.{_≡_, refl, sym, ap, _∙_}
-use mathlib.Core.List.{List, [], _∷_}
-use Prim.Native.Nat.{ℕ, zero, suc, _+_, _*_, _-_, _≤_, _<_}
-use native.Mathlib.Decide.{ℕ-discrete, decLt}
-use native.Mathlib.Nat.{suc-inj}
+use mathlib.Core.List.{List, _∷_}
+use Prim.Native.Nat.{ℕ, zero, suc, _+_, _-_, _≤_, _<_}
+use native.Mathlib.Decide.{decLt}
 use native.Mathlib.Omega.{arith}
 use lib.Dec.{ltb}
 use lib.ListN.{length, getD, set, length-set}
@@ -11,7 +10,6 @@ use lib.Seq.{getD-set-same, getD-set-other}
 use borrow.Author.Tests.{lt-ltb, le-ltb}
 use Rattle.instruction.specs.Word.{pick}
 use Rattle.program.specs.Program.{Program, registers, arguments}
-use Rattle.program.specs.Lists.{tab}
 use Rattle.program.proofs.Lists.{getD-tab, getD-tab-out}
 use Rattle.machine.specs.declared.Value.{Value}
 use Rattle.machine.specs.State.{Frame, null, noFrame, register}
@@ -22,7 +20,6 @@ use Rattle.memory.proofs.Words.{cleared-in, length-copied, copied-before, copie
 use Rattle.turn.specs.Lies.{Held, FrameLies, FramesLie}
 use Rattle.turn.proofs.Only.{Only, only-then, only-set, only-cleared, only-copied}
 use Rattle.turn.proofs.Frames.{address-put, slot-put, frame-out, frame-top, top-changed, top-dropped, top-added, no-frame}
-use Rattle.turn.proofs.Objects.{held-null}
 
 -- a register is written
 slot-wrote : (f : Frame) (a : ℕ) (v : Value) (k : ℕ) → (k ≡ suc a → ⊥) → slot (wrote f a v) k ≡ slot f k

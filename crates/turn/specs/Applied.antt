@@ -1,7 +1,7 @@
 -- What the functions of a step promise of lent memory. Nothing here needs to be believed to read a promise of the stepper.
 -- Definitions only.
 use mathlib.Core.Path.{_≡_}
-use mathlib.Core.List.{List, [], _∷_}
+use mathlib.Core.List.{List, _∷_}
 use Prim.Native.Nat.{ℕ, _+_, _-_, _<_}
 use lib.Dec.{ltb, eqb}
 use lib.ListN.{length, getD, set}
@@ -10,13 +10,13 @@ use Rattle.program.specs.Program.{Program, registers, arguments, codeLength}
 use Rattle.reader.specs.Formed.{Formed}
 use Rattle.machine.specs.declared.Value.{Value}
 use Rattle.machine.specs.declared.Effect.{Effect}
-use Rattle.machine.specs.State.{Frame, Status, running, raised, State}
+use Rattle.machine.specs.State.{Frame, Status, running, State}
 use Rattle.machine.specs.Run.{apply, step}
 use Rattle.machine.specs.Shaped.{Shaped, Fitting}
 use Rattle.memory.specs.Memory.{valueWord}
 use Rattle.memory.specs.Writes.{framePlace, cleared, copied}
 use Rattle.turn.specs.declared.Status as code
-use Rattle.turn.specs.declared.Status.the-variants.{Running, Done}
+use Rattle.turn.specs.declared.Status.the-variants.{Running}
 use Rattle.turn.specs.declared.Tally.{Tally}
 use Rattle.turn.specs.declared.Turn.{Turn}
 use Rattle.turn.specs.declared.Whereabouts.{Whereabouts}

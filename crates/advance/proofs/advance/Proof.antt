@@ -1,9 +1,7 @@
-use mathlib.Core.Path.{refl}
 -- `advance::advance` meets its contract. Assumes nothing.
+use mathlib.Core.Path.{refl, sym, ap, _∙_}
 use Rattle.turn.proofs.Steps.{done-stops, uncaught-stops, failed-stops}
 use Rattle.turn.specs.Lies.{statusOf}
-use mathlib.Core.Path.{sym, ap, _∙_}
-use borrow.Author.Needs.{needs}
 use Rattle.advance.proofs.advance.Statement.{statement}
 use Rattle.advance.proofs.advance.Tie as tie
 

@@ -1,10 +1,9 @@
-use mathlib.Core.Path.{refl}
 -- `advance::apply` meets its contract. Assumes nothing.
+use mathlib.Core.Path.{refl}
 use native.Mathlib.Omega.{arith}
 use Rattle.turn.proofs.Leave.{exit-turned}
 use Rattle.turn.proofs.Growth.{raise-turned, fail-turned}
 use Rattle.turn.proofs.Effects.{next-turned, jump-turned, write-turned, load-turned, load-static-turned, store-turned, store-static-turned}
-use borrow.Author.Needs.{needs}
 use Rattle.advance.proofs.apply.Statement.{statement}
 use Rattle.advance.proofs.apply.Tie as tie
 

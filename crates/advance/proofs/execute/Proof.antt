@@ -1,10 +1,8 @@
-use mathlib.Core.Path.{refl}
 -- `advance::execute` meets its contract. Assumes nothing.
+use mathlib.Core.Path.{refl, sym, _∙_}
 use native.Mathlib.Omega.{arith}
 use Rattle.turn.proofs.Executed.{executed}
 use Rattle.turn.proofs.Steps.{running-outside}
-use mathlib.Core.Path.{sym, _∙_}
-use borrow.Author.Needs.{needs}
 use Rattle.advance.proofs.execute.Statement.{statement}
 use Rattle.advance.proofs.execute.Tie as tie
 

@@ -1,10 +1,8 @@
-use mathlib.Core.Path.{refl}
 -- `advance::unwind` meets its contract. Assumes nothing.
+use mathlib.Core.Path.{refl, sym, _∙_}
 use native.Mathlib.Omega.{arith}
 use Rattle.turn.proofs.Executed.{caught-stepped, dropped-stepped}
 use Rattle.turn.proofs.Steps.{raised-outside}
-use mathlib.Core.Path.{sym, _∙_}
-use borrow.Author.Needs.{needs}
 use Rattle.advance.proofs.unwind.Statement.{statement}
 use Rattle.advance.proofs.unwind.Tie as tie
 

@@ -6,7 +6,6 @@ use Prim.Native.Nat.{_<_, _≤_}
 use mathlib.Core.Path.{sym}
 use native.Mathlib.Omega.{arith}
 use borrow.Author.Tests.{eq-eqb, ne-eqb, lt-ltb, le-ltb}
-use borrow.Author.Needs.{needs}
 use Rattle.advance.proofs.whereabouts.Statement.{statement}
 use Rattle.advance.proofs.whereabouts.Tie as tie
 

@@ -1,75 +1,56 @@
+-- `capi::halt_number` meets its contract. Assumes nothing.
 use borrow.Author.Needs.{needs}
 use Rattle.capi.proofs.halt_number.Statement.{statement}
 use Rattle.capi.proofs.halt_number.Tie as tie
-use Rattle.capi.proofs.halt_number.Reads as reads
-use Rattle.capi.proofs.halt_number.Lts as lts
-use Rattle.capi.proofs.fault_number.Reads as fault-number-reads
 
--- src/lib.rt:47:23
 enum-told : tie.Need-enum-told
 enum-told c = search needs
 
--- src/lib.rt:48:27
 enum-told-2 : tie.Need-enum-told-2
 enum-told-2 c = search needs
 
--- src/lib.rt:49:23
 enum-known-h : tie.Need-enum-known-h
 enum-known-h c = search needs
 
--- src/lib.rt:49:34
 fault-number-requires : tie.Need-fault-number-requires
-fault-number-requires c κs = search needs
+fault-number-requires c κs = tt
 
--- src/lib.rt:49:34
 cast-result : tie.Need-cast-result
 cast-result c = search needs
 
--- src/lib.rt:49:29
 add-result : tie.Need-add-result
 add-result c = search needs
 
--- src/lib.rt:50:28
 enum-told-3 : tie.Need-enum-told-3
 enum-told-3 c = search needs
 
--- src/lib.rt:51:28
 enum-told-4 : tie.Need-enum-told-4
 enum-told-4 c = search needs
 
--- src/lib.rt:52:28
 enum-told-5 : tie.Need-enum-told-5
 enum-told-5 c = search needs
 
--- src/lib.rt:53:26
 enum-told-6 : tie.Need-enum-told-6
 enum-told-6 c = search needs
 
--- src/lib.rt:43:1
 returns : tie.Need-returns
 returns c = search needs
 
--- src/lib.rt:43:1
 returns-2 : tie.Need-returns-2
 returns-2 c = search needs
 
--- src/lib.rt:43:1
 returns-3 : tie.Need-returns-3
 returns-3 c = rw (c .before .before .h .given .1, c .fault-number .ensures)
 
--- src/lib.rt:43:1
 returns-4 : tie.Need-returns-4
 returns-4 c = search needs
 
--- src/lib.rt:43:1
 returns-5 : tie.Need-returns-5
 returns-5 c = search needs
 
--- src/lib.rt:43:1
 returns-6 : tie.Need-returns-6
 returns-6 c = search needs
 
--- src/lib.rt:43:1
 returns-7 : tie.Need-returns-7
 returns-7 c = search needs
 

@@ -1,37 +1,26 @@
+-- `capi::hudzmoke_step` meets its contract. Assumes nothing.
 use mathlib.Core.Path.{_∙_}
-use borrow.Author.Needs.{needs}
 use Rattle.capi.proofs.hudzmoke_step.Statement.{statement}
 use Rattle.capi.proofs.hudzmoke_step.Tie as tie
-use Rattle.capi.proofs.hudzmoke_step.Reads as reads
-use Rattle.capi.proofs.hudzmoke_step.Lts as lts
-use Rattle.capi.proofs.put_outcome.Reads as put-outcome-reads
-use Rattle.stepper.proofs.step.Reads as step-reads
 
--- src/lib.rt:108:9
 step-requires : tie.Need-step-requires
-step-requires c κs = search needs
+step-requires c κs = tt
 
--- src/lib.rt:109:5
 put-outcome-requires : tie.Need-put-outcome-requires
-put-outcome-requires c κs = search needs
+put-outcome-requires c κs = tt
 
--- src/lib.rt:102:1
 same-length : tie.Need-same-length
 same-length c = c .before .before .before .before .before .before .before .before .before .before .step .kept .1 .1 .0
 
--- src/lib.rt:102:1
 same-length-2 : tie.Need-same-length-2
 same-length-2 c = c .before .before .before .before .before .before .before .before .before .before .step .kept .1 .1 .1 .0
 
--- src/lib.rt:102:1
 same-length-3 : tie.Need-same-length-3
 same-length-3 c = c .before .before .before .before .before .before .before .before .before .before .step .kept .1 .1 .1 .1 .0
 
--- src/lib.rt:102:1
 same-length-4 : tie.Need-same-length-4
 same-length-4 c = c .before .before .put-outcome .kept .0
 
--- src/lib.rt:102:1
 returns : tie.Need-returns
 returns c = (c .before .before .put-outcome .ensures .0 ∙ c .before .before .before .before .before .before .before .before .before .before .step .ensures .0 .0, (rw (c .before .before .put-outcome .ensures .1, c .before .before .before .before .before .before .before .before .before .before .step .ensures .0 .0, c .before .before .before .before .before .before .before .before .before .before .step .ensures .0 .1), c .before .before .before .before .before .before .before .before .before .before .step .ensures .1))
 

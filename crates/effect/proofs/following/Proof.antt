@@ -1,7 +1,6 @@
 -- `effect::following` meets its contract. Assumes nothing.
 use native.Mathlib.Omega.{arith}
 use borrow.Author.Tests.{lt-ltb, le-ltb}
-use borrow.Author.Needs.{needs}
 use Rattle.effect.proofs.following.Statement.{statement}
 use Rattle.effect.proofs.following.Tie as tie
 

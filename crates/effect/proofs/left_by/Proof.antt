@@ -1,7 +1,6 @@
 -- `effect::left_by` meets its contract. Assumes nothing.
 use native.Mathlib.Omega.{arith}
 use borrow.Author.Tests.{eq-eqb, ne-eqb}
-use borrow.Author.Tests.{ne-eqb}
 use Rattle.effect.proofs.left_by.Statement.{statement}
 use Rattle.effect.proofs.left_by.Tie as tie
 

@@ -1,7 +1,6 @@
 -- `effect::make` meets its contract. Assumes nothing.
 use native.Mathlib.Omega.{arith}
 use Rattle.turn.proofs.Growth.{make-turned, make-full}
-use borrow.Author.Needs.{needs}
 use Rattle.effect.proofs.make.Statement.{statement}
 use Rattle.effect.proofs.make.Tie as tie
 

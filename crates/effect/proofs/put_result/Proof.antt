@@ -1,6 +1,5 @@
-use mathlib.Core.Path.{_∙_}
 -- `effect::put_result` meets its contract. Assumes nothing.
-use borrow.Author.Needs.{needs}
+use mathlib.Core.Path.{_∙_}
 use Rattle.effect.proofs.put_result.Statement.{statement}
 use Rattle.effect.proofs.put_result.Tie as tie
 

@@ -1,5 +1,4 @@
 -- `effect::resume` meets its contract. Assumes nothing.
-use borrow.Author.Needs.{needs}
 use Rattle.effect.proofs.resume.Statement.{statement}
 use Rattle.effect.proofs.resume.Tie as tie
 

@@ -1,6 +1,5 @@
 -- `effect::store` meets its contract. Assumes nothing.
 use native.Mathlib.Omega.{arith}
-use borrow.Author.Needs.{needs}
 use Rattle.effect.proofs.store.Statement.{statement}
 use Rattle.effect.proofs.store.Tie as tie
 

@@ -1,6 +1,5 @@
 -- `effect::store_static` meets its contract. Assumes nothing.
 use native.Mathlib.Omega.{arith}
-use borrow.Author.Needs.{needs}
 use Rattle.effect.proofs.store_static.Statement.{statement}
 use Rattle.effect.proofs.store_static.Tie as tie
 

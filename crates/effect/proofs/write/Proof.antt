@@ -1,8 +1,6 @@
-use mathlib.Core.Path.{_∙_}
 -- `effect::write` meets its contract. Assumes nothing.
+use mathlib.Core.Path.{_∙_, refl}
 use native.Mathlib.Omega.{arith}
-use mathlib.Core.Path.{refl}
-use borrow.Author.Needs.{needs}
 use Rattle.effect.proofs.write.Statement.{statement}
 use Rattle.effect.proofs.write.Tie as tie
 

@@ -6,14 +6,14 @@ use lib.Dec.{leb}
 use lib.ListN.{length}
 use Rattle.instruction.specs.Word.{pick}
 use Rattle.reader.specs.Read.{Reading, refused, taken, readProgram}
-use Rattle.machine.specs.State.{Status, running, raised, done, uncaught, failed, State}
+use Rattle.machine.specs.State.{Status, running, raised, done, uncaught, failed}
 use Rattle.memory.specs.Memory.{framesOf, objectsOf, staticsOf}
 use Rattle.turn.specs.Stop.{haltNumber}
-use Rattle.stepper.specs.declared.Outcome.{Outcome}
-use Rattle.stepper.specs.declared.Outcome.the-variants.{Refused, Short, Ran}
-use Rattle.stepper.specs.declared.Pending.{Pending}
-use Rattle.stepper.specs.declared.Pending.the-variants.{Nothing, Object}
-use Rattle.stepper.specs.Bounded.{Stopped, bounded}
+use Rattle.bounded.specs.declared.Outcome.{Outcome}
+use Rattle.bounded.specs.declared.Outcome.the-variants.{Refused, Short, Ran}
+use Rattle.bounded.specs.declared.Pending.{Pending}
+use Rattle.bounded.specs.declared.Pending.the-variants.{Nothing, Object}
+use Rattle.bounded.specs.Bounded.{Stopped, bounded}
 
 -- a text is refused, memory falls short, or the program ran
 pub data Stepping : Type 0 where

@@ -1,0 +1,6 @@
+-- Laws that tell the stepper's answers apart, and examples.
+pub mod Stops
+pub mod Left
+pub mod Laws
+pub mod Texts
+pub mod Examples
