@@ -1,9 +1,9 @@
 // A checksum of the program in tables: of the bytes that its frames have, made from what the tables say.
 use frame::Kind;
 
-// One byte more.
+// One byte more: the low one of a number.
 fn mix(h: u64, b: u64) -> u64 {
-    ((h % 4294967291) * 257 + b % 256 + 1) % 4294967291
+    cases::mix(h, b % 256)
 }
 
 fn mix_two(h: u64, a: usize, b: usize) -> u64 {

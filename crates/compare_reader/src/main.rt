@@ -1,32 +1,30 @@
 // Reads every text of the four files in data/ and prints what it is: a refusal with its number and line, or the counts and a
 // checksum of the program in the tables. What must be printed comes from the second implementation (compare/).
+use cases::Next;
 use frame::Kind;
 use libc::STDOUT_FILENO;
 use reader::Answer;
-ghost use mathlib.Core.Path.{_≡_};
-ghost use lib.ListN.{length};
 
 mod digest;
-mod line;
 
 fn refused(number: u64, at: usize) {
     io::write_all(STDOUT_FILENO, b"refused");
-    line::print(number, 2);
-    line::print(at as u64, 8);
+    cases::print(number, 2);
+    cases::print(at as u64, 8);
 }
 
 fn counts(t: &[u64; 768]) {
     io::write_all(STDOUT_FILENO, b"read");
-    line::print(program::class_count(t) as u64, 2);
-    line::print(program::field_count(t) as u64, 2);
-    line::print(program::static_count(t) as u64, 2);
-    line::print(program::method_count(t) as u64, 2);
+    cases::print(program::class_count(t) as u64, 2);
+    cases::print(program::field_count(t) as u64, 2);
+    cases::print(program::static_count(t) as u64, 2);
+    cases::print(program::method_count(t) as u64, 2);
 }
 
 fn sums(t: &[u64; 768]) {
-    line::print(digest::total(t, Kind::Code), 4);
-    line::print(digest::total(t, Kind::Handler), 4);
-    line::print(digest::checksum(t), 8);
+    cases::print(digest::total(t, Kind::Code), 4);
+    cases::print(digest::total(t, Kind::Handler), 4);
+    cases::print(digest::checksum(t), 8);
 }
 
 fn taken(t: &[u64; 768]) {
@@ -54,63 +52,31 @@ fn show(text: &[u8]) {
     show_by(text, &mut t);
 }
 
-// Fills the buffer with the text that comes next and prints its line; false where the file is too short.
-fn show_text(fd: i32, text: &mut [u8]) -> bool {
-    let n = io::read_full(fd, &mut *text);
-    if n < text.len() {
-        return false;
+// Reads the text that comes next in a file and prints its line.
+fn show_next(fd: i32) -> Next {
+    let mut text = cases::space();
+    let next = cases::fill_next(fd, &mut text);
+    if let Next::Text(size) = next {
+        show(&text[..size]);
     }
-    show(text);
-    true
+    next
 }
 
-// The same for a text of a known size; false where the buffer is too short.
-fn show_sized(fd: i32, size: usize, buffer: &mut [u8]) -> bool {
-    if buffer.len() < size {
-        return false;
-    }
-    show_text(fd, &mut buffer[..size])
-}
-
-// Room for the longest text.
-fn space() -> [u8; 65600]
-    ensures { λ r. ⌜ 65600 ≡ length r ⌝ }
-{
-    [0; 65600]
-}
-
-// Reads one text of a file and prints its line; false where there is none. A text is a length of four bytes, the high byte
-// first, and so many bytes.
-fn show_next(fd: i32) -> bool {
-    let mut head = [0u8; 4];
-    let mut text = space();
-    if io::read_full(fd, &mut head) < 4 {
-        return false;
-    }
-    let size = line::length(head);
-    show_sized(fd, size, &mut text)
-}
-
-fn show_file(path: &[u8]) {
-    let fd = os::open_read(path);
-    if fd < 0 {
-        os::fail(path);
-        return;
-    }
-    let mut left: usize = 65536;
+// The same for every text of a file; false where the file is no sequence of texts.
+fn show_file(path: &[u8]) -> bool {
+    let fd = cases::open(path);
+    let mut next = Next::End;
+    let mut left: usize = cases::MOST;
     while 0 < left {
-        if show_next(fd) {
-            left -= 1;
-        } else {
-            left = 0;
-        }
+        next = show_next(fd);
+        left = cases::left_after(next, left);
     }
     libc::close(fd);
+    cases::is_whole(next)
 }
 
 fn main() {
-    show_file(b"texts0.bin");
-    show_file(b"texts1.bin");
-    show_file(b"texts2.bin");
-    show_file(b"texts3.bin");
+    if show_file(b"texts0.bin") && show_file(b"texts1.bin") && show_file(b"texts2.bin") {
+        show_file(b"texts3.bin");
+    }
 }

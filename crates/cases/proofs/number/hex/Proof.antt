@@ -1,10 +1,10 @@
--- `compare_reader::line::hex` meets its contract. Assumes nothing.
+-- `cases::number::hex` meets its contract. Assumes nothing.
 use Prim.Native.Nat.{_≤_}
 use mathlib.Core.Path.{_≡_}
 use lib.ListN.{length}
 use borrow.Author.Needs.{needs}
-use Rattle.compare_reader.proofs.line.hex.Statement.{statement}
-use Rattle.compare_reader.proofs.line.hex.Tie as tie
+use Rattle.cases.proofs.number.hex.Statement.{statement}
+use Rattle.cases.proofs.number.hex.Tie as tie
 
 abbrev Inv-loop : tie.InvT-loop
 Inv-loop n out₀ rest₀ i₀ out rest i = (i ≤ 8) × (length out ≡ 8)
