@@ -1,4 +1,4 @@
--- What a text that a buffer was filled with is. Assumes nothing.
+-- Where the text stands that a buffer was filled with. Assumes nothing.
 use Prim.Native.Nat.{ℕ}
 use mathlib.Core.List.{List}
 use Rattle.io.specs.Counts.{Counts}

@@ -1,6 +1,6 @@
 // Numbers: out of the bytes of a record, into a checksum, and onto standard output.
 use libc::STDOUT_FILENO;
-ghost use Prim.Native.Nat.{ℕ, _≤_};
+ghost use Prim.Native.Nat.{_≤_};
 
 fn wide(b: u8) -> u64
     ensures { λ r. ⌜ r ≤ 255 ⌝ }

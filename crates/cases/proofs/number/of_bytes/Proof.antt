@@ -1,6 +1,5 @@
 -- `cases::number::of_bytes` meets its contract. Assumes nothing.
 use Prim.Native.Nat.{_≤_, _-_}
-use native.Mathlib.Omega.{arith}
 use lib.ListN.{length}
 use borrow.Author.Needs.{needs}
 use Rattle.cases.proofs.number.of_bytes.Statement.{statement}
