@@ -1,5 +1,6 @@
--- The arithmetic of signed 32-bit numbers: Android's page "Dalvik bytecode", which document 01 lets decide it. What is quoted
--- is the page's, with operands a and b, or document 01's where that is said. Definitions only.
+-- The arithmetic of signed 32-bit numbers. Document 01 lets Android's page on Dalvik bytecode decide it; that page is not among
+-- its papers and is not quoted here. The marked cases of document 01 hold by computation (proofs/Examples.antt). Definitions
+-- only.
 use mathlib.Core.Bool.{Bool, true, false, not}
 use Prim.Native.Nat.{ℕ, zero, suc, _*_, _-_, _/_, _%_, _^_}
 use lib.Bits.{bitAnd, bitOr, bitXor}
@@ -23,11 +24,11 @@ abbrev pub low : ℤ → ℕ
 low (pos n) = n % 2 ^ 32
 low (negsuc n) = 2 ^ 32 - suc (n % 2 ^ 32)
 
--- "Twos-complement": the signed 32-bit number that is congruent to an integer modulo 2 ^ 32
+-- two's complement: the signed 32-bit number that is congruent to an integer modulo 2 ^ 32
 unfoldable pub wrapped : ℤ → ℤ
 wrapped z = toZ w32 (low z)
 
--- "(b & 0x1f)": shifts use the low five bits of the count
+-- shifts use the low five bits of the count
 abbrev pub shiftCount : ℤ → ℕ
 shiftCount y = ofZ w32 y % 32
 
@@ -46,28 +47,28 @@ sameNumber (negsuc a) (negsuc b) = eqb a b
 
 -- "add sub mul div rem and or xor shl shr ushr" of document 01
 unfoldable pub computed : Operation → ℤ → ℤ → Computed
--- "Twos-complement addition", subtraction and multiplication
+-- addition, subtraction and multiplication, wrapped
 computed Add x y = Number (wrapped (x +ℤ y))
 computed Sub x y = Number (wrapped (x -ℤ y))
 computed Mul x y = Number (wrapped (x *ℤ y))
--- "Twos-complement division, rounded towards zero (that is, truncated to integer)"
+-- division rounds toward zero
 computed Div x y = pick (isZero y) ByZero (Number (wrapped (quotZ x y)))
--- "Twos-complement remainder after division. The sign of the result is the same as that of a"
+-- the remainder of that division: it has the sign of the first operand
 computed Rem x y = pick (isZero y) ByZero (Number (wrapped (remZ x y)))
--- "Bitwise AND", "Bitwise OR", "Bitwise XOR"
+-- bit by bit
 computed And x y = Number (toZ w32 (bitAnd (ofZ w32 x) (ofZ w32 y)))
 computed Or x y = Number (toZ w32 (bitOr (ofZ w32 x) (ofZ w32 y)))
 computed Xor x y = Number (toZ w32 (bitXor (ofZ w32 x) (ofZ w32 y)))
--- "Bitwise shift left", "signed shift right" and "unsigned shift right", each "(with masked argument)"
+-- left; right, filled with the sign; right, filled with zero
 computed Shl x y = Number (toZ w32 (ofZ w32 x * 2 ^ shiftCount y % 2 ^ 32))
 computed Shr x y = Number (shrZ x (2 ^ shiftCount y))
 computed Ushr x y = Number (toZ w32 (ofZ w32 x / 2 ^ shiftCount y))
 
 -- "neg" and "not" of document 01
 unfoldable pub unaryValue : Unary → ℤ → ℤ
--- "Unary twos-complement"
+-- the negative, wrapped
 unaryValue Neg x = wrapped (pos 0 -ℤ x)
--- "Unary ones-complement": each bit turned
+-- each bit turned
 unaryValue Not x = toZ w32 (2 ^ 32 - 1 - ofZ w32 x)
 
 -- "eq ne lt ge gt le of a, b" of document 01
