@@ -1,2 +1,3 @@
 -- What the contracts of `cases` cite. Assumes nothing.
 pub mod Filled
+pub mod Numbers

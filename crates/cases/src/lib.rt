@@ -5,6 +5,7 @@ ghost use mathlib.Core.Path.{_≡_};
 ghost use Prim.Native.Nat.{_-_, _≤_};
 ghost use lib.ListN.{length};
 ghost use Rattle.cases.specs.Filled.{Filled};
+ghost use Rattle.cases.specs.Numbers.{leftAfter, whole};
 
 mod number;
 
@@ -34,17 +35,20 @@ pub fn open(path: &[u8]) -> i32 {
 
 // How many records may be left to read after this one, where so many were before it.
 pub fn left_after(next: Next, left: usize) -> usize
-    ensures { λ r. ⌜ r ≤ left - 1 ⌝ }
+    ensures value { λ r. ⌜ r ≡ leftAfter next left ⌝ }
+    ensures fewer { λ r. ⌜ r ≤ left - 1 ⌝ }
 {
     match next {
-        Next::Text(_) => { if 0 < left { left - 1 } else { 0 } }
+        Next::Text(size) => { if 0 < left { left - 1 } else { 0 } }
         Next::End => 0,
         Next::Broken => 0,
     }
 }
 
 // Whether a file whose last record was this one is whole.
-pub fn is_whole(next: Next) -> bool {
+pub fn is_whole(next: Next) -> bool
+    ensures value { λ r. ⌜ r ≡ whole next ⌝ }
+{
     match next {
         Next::Text(_) => true,
         Next::End => true,

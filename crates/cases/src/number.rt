@@ -1,15 +1,19 @@
 // Numbers: out of the bytes of a record, into a checksum, and onto standard output.
 use libc::STDOUT_FILENO;
+ghost use mathlib.Core.Path.{_≡_};
 ghost use Prim.Native.Nat.{_≤_};
+ghost use Rattle.cases.specs.Numbers.{bytesFrom, mixed};
 
 fn wide(b: u8) -> u64
-    ensures { λ r. ⌜ r ≤ 255 ⌝ }
+    ensures { λ r. ⌜ (r ≡ b) × (r ≤ 255) ⌝ }
 {
     b as u64
 }
 
 // The number that bytes say, the high byte first: of the last eight bytes, where there are more.
-pub fn of_bytes(bytes: &[u8]) -> u64 {
+pub fn of_bytes(bytes: &[u8]) -> u64
+    ensures value { λ r. ⌜ r ≡ bytesFrom 0 (now (bytes .entry)) ⌝ }
+{
     let mut n: u64 = 0;
     let mut i: usize = 0;
     while i < bytes.len() {
@@ -20,7 +24,9 @@ pub fn of_bytes(bytes: &[u8]) -> u64 {
 }
 
 // A checksum with one number more.
-pub fn mix(h: u64, n: u64) -> u64 {
+pub fn mix(h: u64, n: u64) -> u64
+    ensures value { λ r. ⌜ r ≡ mixed h n ⌝ }
+{
     (h % 4294967291 * 257 + n % 4294967291 + 1) % 4294967291
 }
 
