@@ -3,6 +3,17 @@
 use crate::opcode::*;
 use crate::program::{Class, Field, Instruction, Method, Program, NO_SUPERCLASS, STATIC, VIRTUAL};
 
+/// Document 01's sample.
+pub const SAMPLE: &str = "\
+01ff
+0100
+040000010100
+060d01000000000000
+061100000000000000
+040001010100
+061100000000000000
+";
+
 /// Operations of `binop`.
 pub const ADD: u32 = 0;
 pub const SUB: u32 = 1;
@@ -150,4 +161,21 @@ pub fn program(
         statics,
         methods,
     }
+}
+
+/// A generator of numbers in register 0, without end: four constants, and six
+/// instructions from address 4 on that make the next number.
+pub fn xorshift() -> Vec<Instruction> {
+    vec![
+        constant(0, 2_463_534_242u32 as i32),
+        constant(1, 13),
+        constant(2, 17),
+        constant(3, 5),
+        binop(SHL, 4, 0, 1),
+        binop(XOR, 0, 0, 4),
+        binop(USHR, 4, 0, 2),
+        binop(XOR, 0, 0, 4),
+        binop(SHL, 4, 0, 3),
+        binop(XOR, 0, 0, 4),
+    ]
 }

@@ -1,5 +1,6 @@
 //! The reader's refusals of length, form and order (1 to 4), and the sample.
 
+use compare::assembly::SAMPLE;
 use compare::digest::describe;
 use compare::opcode::{INVOKE_STATIC, RETURN_VOID};
 use compare::program::{Class, Instruction, Method, STATIC};
@@ -11,16 +12,6 @@ const METHOD: &str = "040000010100\n";
 const NOP: &str = "060000000000000000\n";
 const RETURN: &str = "061100000000000000\n";
 const HANDLER: &str = "0500010000\n";
-
-const SAMPLE: &str = "\
-01ff
-0100
-040000010100
-060d01000000000000
-061100000000000000
-040001010100
-061100000000000000
-";
 
 fn refused(text: impl AsRef<[u8]>) -> (u8, u32) {
     let Refusal { number, line } = read(text.as_ref()).expect_err("refused");

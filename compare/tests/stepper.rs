@@ -8,16 +8,6 @@ use compare::program::{Instruction, Method, Program};
 use compare::reader::read;
 use compare::Refusal;
 
-const SAMPLE: &str = "\
-01ff
-0100
-040000010100
-060d01000000000000
-061100000000000000
-040001010100
-061100000000000000
-";
-
 const OBJECT: u64 = 1 << 32;
 
 /// The memory after a call; each word was ffff... before.

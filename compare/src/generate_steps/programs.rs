@@ -101,19 +101,8 @@ fn bits(x: i32) -> Program {
 }
 
 fn xorshift() -> Program {
-    let code = vec![
-        constant(0, 2_463_534_242u32 as i32),
-        constant(1, 13),
-        constant(2, 17),
-        constant(3, 5),
-        binop(SHL, 4, 0, 1),
-        binop(XOR, 0, 0, 4),
-        binop(USHR, 4, 0, 2),
-        binop(XOR, 0, 0, 4),
-        binop(SHL, 4, 0, 3),
-        binop(XOR, 0, 0, 4),
-        goto(4),
-    ];
+    let mut code = crate::assembly::xorshift();
+    code.push(goto(4));
     program(&[0], &[], 0, vec![main_method(5, code)])
 }
 

@@ -17,17 +17,8 @@ pub fn all() -> Vec<(&'static str, Program)> {
 
 /// A generator of numbers, and sums by what they are.
 fn arithmetic() -> Program {
-    let code = vec![
-        constant(0, 2_463_534_242u32 as i32),
-        constant(1, 13),
-        constant(2, 17),
-        constant(3, 5),
-        binop(SHL, 4, 0, 1),
-        binop(XOR, 0, 0, 4),
-        binop(USHR, 4, 0, 2),
-        binop(XOR, 0, 0, 4),
-        binop(SHL, 4, 0, 3),
-        binop(XOR, 0, 0, 4),
+    let mut code = xorshift();
+    code.extend([
         branch_zero(LT, 0, 14),
         binop(ADD, 5, 5, 0),
         binop(REM, 6, 5, 2),
@@ -36,7 +27,7 @@ fn arithmetic() -> Program {
         binop(MUL, 4, 4, 3),
         binop(SUB, 5, 5, 4),
         goto(4),
-    ];
+    ]);
     program(&[0], &[], 0, vec![main_method(7, code)])
 }
 
