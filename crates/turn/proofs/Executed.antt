@@ -17,8 +17,9 @@ use Rattle.machine.specs.declared.Value.the-variants.{Number, Reference}
 use Rattle.machine.specs.declared.Effect.{Effect}
 use Rattle.machine.specs.State.{Frame, Status, running, raised, State, classOf, objectAt}
 use Rattle.machine.specs.Decide.{decide}
-use Rattle.machine.specs.Run.{apply, unwound, stepBy, step}
+use Rattle.machine.specs.Run.{step}
 use Rattle.machine.specs.Shaped.{Known, Shaped}
+use Rattle.machine.proofs.Continues.{At, effectAt, step-running, step-raised}
 use Rattle.machine.proofs.Fitting.{method-exists, top-shaped, decided-fits}
 use Rattle.decide.specs.Slots.{slot, firstSlot, secondSlot}
 use Rattle.memory.specs.Memory.{valueWord, valueIn}
@@ -48,39 +49,22 @@ known-slot : (p : Program) (s : State) → Shaped p s → (f : Frame) (rest : Li
 known-slot p s h f rest e zero = top-shaped p s h f rest e .0 .result
 known-slot p s h f rest e (suc r) = top-shaped p s h f rest e .0 .known r
 
--- what stops a running state, and its step, where the top frame is inside its method
-running-stop : (p : Program) (s : State) (f : Frame) (rest : List Frame) → s .frames ≡ f ∷ rest → s .status ≡ running
-    → f .address < codeLength p (f .method) → stopOf p s ≡ room s (decide p s f (instructionAt p (f .method) (f .address)))
-unfolding stopOf
-running-stop p s f rest e r l =
-    ap (λ (w : Status). stopBy p s w (s .frames)) r
-    ∙ ap (stopBy p s running) e
-    ∙ rw (lt-ltb (f .address) (codeLength p (f .method)) l) refl
+-- what stops a state whose top frame is inside its method: for a running one what its effect lacks room for, for one with an
+-- object pending nothing. Their steps are `step-running` and `step-raised`
+module _ (p : Program) (s : State) (f : Frame) (rest : List Frame) where
+  running-stop : At p s running f rest → stopOf p s ≡ room s (effectAt p s f)
+  unfolding stopOf
+  running-stop h =
+      ap (λ (w : Status). stopBy p s w (s .frames)) (h .status)
+      ∙ ap (stopBy p s running) (h .frames)
+      ∙ rw (lt-ltb (f .address) (codeLength p (f .method)) (h .inside)) refl
 
-running-step : (p : Program) (s : State) (f : Frame) (rest : List Frame) → s .frames ≡ f ∷ rest → s .status ≡ running
-    → f .address < codeLength p (f .method) → step p s ≡ apply p s f rest (decide p s f (instructionAt p (f .method) (f .address)))
-unfolding step
-running-step p s f rest e r l =
-    ap (λ (w : Status). stepBy p s w (s .frames)) r
-    ∙ ap (stepBy p s running) e
-    ∙ rw (lt-ltb (f .address) (codeLength p (f .method)) l) refl
-
-raised-stop : (p : Program) (s : State) (f : Frame) (rest : List Frame) (o : ℕ) → s .frames ≡ f ∷ rest → s .status ≡ raised o
-    → f .address < codeLength p (f .method) → stopOf p s ≡ none
-unfolding stopOf
-raised-stop p s f rest o e r l =
-    ap (λ (w : Status). stopBy p s w (s .frames)) r
-    ∙ ap (stopBy p s (raised o)) e
-    ∙ rw (lt-ltb (f .address) (codeLength p (f .method)) l) refl
-
-raised-step : (p : Program) (s : State) (f : Frame) (rest : List Frame) (o : ℕ) → s .frames ≡ f ∷ rest → s .status ≡ raised o
-    → f .address < codeLength p (f .method)
-    → step p s ≡ unwound p s f rest o (handlerFor p (f .method) (f .address) (objectAt s o .class))
-unfolding step
-raised-step p s f rest o e r l =
-    ap (λ (w : Status). stepBy p s w (s .frames)) r
-    ∙ ap (stepBy p s (raised o)) e
-    ∙ rw (lt-ltb (f .address) (codeLength p (f .method)) l) refl
+  raised-stop : (o : ℕ) → At p s (raised o) f rest → stopOf p s ≡ none
+  unfolding stopOf
+  raised-stop o h =
+      ap (λ (w : Status). stopBy p s w (s .frames)) (h .status)
+      ∙ ap (stopBy p s (raised o)) (h .frames)
+      ∙ rw (lt-ltb (f .address) (codeLength p (f .method)) (h .inside)) refl
 
 -- ---- a running state
 
@@ -96,6 +80,7 @@ module _ (p : Program) (t : Tally) (now after : Lent) (top m a : ℕ) (i : Instr
     where
       body : (f : Frame) (rest : List Frame) → Found p s top m a f rest → Turned (stopOf p s) (step p s) s before t r after
       body f rest fd =
+          let here : At p s running f rest = record { status = st; frames = fd .frames; inside = fd .inside } in
           let exists = formed .methods (f .method) (method-exists p (f .method) (f .address) (fd .inside)) in
           let it = top-lies f rest (before .frames) (now .frames) (rw (fd .frames) at (lies .frames)) in
           let same : i ≡ instructionAt p (f .method) (f .address) = read ∙ rw (fd .method, fd .address) refl in
@@ -121,7 +106,7 @@ module _ (p : Program) (t : Tally) (now after : Lent) (top m a : ℕ) (i : Instr
             lies = lies;
           }) in
           rw
-          (running-stop p s f rest (fd .frames) st (fd .inside), running-step p s f rest (fd .frames) st (fd .inside), sym e-is)
+          (running-stop p s f rest here, step-running p s f rest here, sym e-is)
           turned
 
 -- ---- an object pending
@@ -135,12 +120,13 @@ module _ (p : Program) (t : Tally) (fr ob st : List ℕ) (top m a o : ℕ) (at :
       body : (f : Frame) (rest : List Frame) → Found p s top m a f rest
           → Turned (stopOf p s) (step p s) s before t (Went (withStatus t Running)) (lent (resultWords fr top (handlerTarget p m j) (Reference o)) ob st)
       body f rest fd =
+          let here : At p s (raised o) f rest = record { status = r; frames = fd .frames; inside = fd .inside } in
           let made : o < length (s .objects) = (rw r at (shaped .status)) in
           let class-is = class-of s before t (lent fr ob st) lies (Reference o) made in
           let found : handlerFor p (f .method) (f .address) (objectAt s o .class) ≡ handling.Caught j =
           rw (sym (fd .method), sym (fd .address), sym class-is) looked in (
-            raised-stop p s f rest o (fd .frames) r (fd .inside),
-            rw (raised-step p s f rest o (fd .frames) r (fd .inside), found, fd .method)
+            raised-stop p s f rest o here,
+            rw (step-raised p s f rest o here, found, fd .method)
                 (caught-lies s f before t fr ob st lies top rest (fd .frames) (fd .height) (handlerTarget p (f .method) j) (Reference o) (held (Reference o) back)),
           )
 
@@ -152,11 +138,12 @@ module _ (p : Program) (t : Tally) (fr ob st : List ℕ) (top m a o : ℕ) (at :
       body : (f : Frame) (rest : List Frame) → Found p s top m a f rest
           → Turned (stopOf p s) (step p s) s before t (Went (leaving t top (Uncaught o) (Raised o))) (lent (cleared 19 fr (framePlace top 0)) ob st)
       body f rest fd =
+          let here : At p s (raised o) f rest = record { status = r; frames = fd .frames; inside = fd .inside } in
           let made : o < length (s .objects) = (rw r at (shaped .status)) in
           let class-is = class-of s before t (lent fr ob st) lies (Reference o) made in
           let found : handlerFor p (f .method) (f .address) (objectAt s o .class) ≡ handling.Uncaught =
           rw (sym (fd .method), sym (fd .address), sym class-is) looked in (
-            raised-stop p s f rest o (fd .frames) r (fd .inside),
-            rw (raised-step p s f rest o (fd .frames) r (fd .inside), found)
+            raised-stop p s f rest o here,
+            rw (step-raised p s f rest o here, found)
                 (dropped-lies s f before t fr ob st lies top rest (fd .frames) (fd .height) o),
           )
