@@ -1,7 +1,8 @@
-// One step of the stepper, in memory that the caller lends: what an instruction does there, and what a pending object does.
-use machine::Effect;
+// The steps of the stepper that do not stay in the top frame, in memory that the caller lends: what an instruction came to, or
+// what a pending object does.
 use machine::Value;
 use search::Handling;
+use turn::Act;
 use turn::Halt;
 use turn::Status;
 use turn::Tally;
@@ -12,12 +13,14 @@ ghost use mathlib.Core.List.{List};
 ghost use Prim.Native.Nat.{ℕ};
 ghost use Rattle.reader.specs.Formed.{Formed};
 ghost use Rattle.program.specs.Tables.{programIn};
-ghost use Rattle.machine.specs.State.{State, running, raised};
+ghost use Rattle.machine.specs.State.{State, raised};
 ghost use Rattle.machine.specs.Run.{step};
 ghost use Rattle.machine.specs.Shaped.{Shaped};
+ghost use Rattle.turn.specs.declared.Status.the-variants.{Running};
 ghost use Rattle.turn.specs.Stop.{stopOf};
 ghost use Rattle.turn.specs.Lies.{Lent, lent, Lies, Turned};
-ghost use Rattle.turn.specs.Applied.{whereIn, Applied, Stepped};
+ghost use Rattle.turn.specs.Applied.{whereIn, Stepped};
+ghost use Rattle.advance.specs.Pausing.{Pausing};
 
 // Where the top of so many frames is.
 fn whereabouts(t: &[u64; 768], frames: &[u64], depth: u8) -> Whereabouts
@@ -38,79 +41,29 @@ fn whereabouts(t: &[u64; 768], frames: &[u64], depth: u8) -> Whereabouts
     Whereabouts::Outside
 }
 
-// Applies an effect at frame `top`, which is at address `pc`, or tells what stops it.
+// Does what the instruction at address `pc` of the top frame came to.
 fn apply(
     t: &[u64; 768],
     frames: &mut [u64],
     objects: &mut [u64],
-    statics: &mut [u64],
-    top: u8,
     tally: Tally,
     pc: u8,
-    e: Effect,
+    act: Act,
 ) -> Turn
-    ensures turn { λ r. ⌜ Applied (programIn (now (t .entry))) e top pc tally (lent (now (frames .entry)) (now (objects .entry)) (now (statics .entry))) r (lent (now (frames .exit)) (now (objects .exit)) (now (statics .exit))) ⌝ }
+    ensures turn { λ r. ⌜ ((s : State) → (before : Lent) → (st : List ℕ) → Lies s before tally (lent (now (frames .entry)) (now (objects .entry)) st) → tally .status ≡ Running → Pausing (programIn (now (t .entry))) before tally (lent (now (frames .entry)) (now (objects .entry)) st) s pc act → Turned (stopOf (programIn (now (t .entry))) s) (step (programIn (now (t .entry))) s) s before tally r (lent (now (frames .exit)) (now (objects .exit)) st)) ⌝ }
 {
-    match e {
-        Effect::Next => effect::go(frames, top, tally, pc as usize + 1),
-        Effect::Jump { target } => effect::go(frames, top, tally, target as usize),
-        Effect::Write { to, value } => effect::write(frames, top, tally, pc, to, value),
-        Effect::Load { to, object, field } => {
-            let v = memory::cell(objects, object, field);
-            effect::write(frames, top, tally, pc, to, v)
-        }
-        Effect::LoadStatic { to, place } => {
-            let v = memory::value_at(statics, place as usize);
-            effect::write(frames, top, tally, pc, to, v)
-        }
-        Effect::Make { to, class } => effect::make(frames, objects, top, tally, pc, to, class),
-        Effect::Store {
-            object,
-            field,
-            value,
-        } => effect::store(frames, objects, top, tally, pc, object, field, value),
-        Effect::StoreStatic { place, value } => effect::store_static(
-            frames,
-            statics,
-            top,
-            tally,
-            pc,
-            place,
-            value,
-        ),
-        Effect::Call { method, first } => effect::call(t, frames, top, tally, method, first),
-        Effect::Exit { value } => effect::leave(frames, top, tally, value),
-        Effect::Raise { object } => effect::with_status(tally, Status::Raised(object)),
-        Effect::Fail { fault } => effect::with_status(tally, Status::Failed(fault)),
-    }
-}
-
-// A step of a running state.
-fn execute(
-    t: &[u64; 768],
-    frames: &mut [u64],
-    objects: &mut [u64],
-    statics: &mut [u64],
-    tally: Tally,
-) -> Turn
-    ensures turn { λ r. ⌜ Stepped (programIn (now (t .entry))) running tally (lent (now (frames .entry)) (now (objects .entry)) (now (statics .entry))) r (lent (now (frames .exit)) (now (objects .exit)) (now (statics .exit))) ⌝ }
-{
-    let at = whereabouts(t, frames, tally.depth);
-    let Whereabouts::Inside {
-        top,
-        method,
-        address,
-    } = at
-    else {
+    if tally.depth == 0 {
         return Turn::Stopped(Halt::Outside);
-    };
-    let i = program::instruction_at(t, method, address as usize);
-    let slots = decide::slots(i);
-    let left = memory::slot(frames, top, slots.first);
-    let right = memory::slot(frames, top, slots.second);
-    let class = memory::class_of(objects, left);
-    let e = decide::decide(t, i, left, right, class);
-    apply(t, frames, objects, statics, top, tally, address, e)
+    }
+    let top = tally.depth - 1;
+    match act {
+        Act::Go(to) => Turn::Stopped(Halt::Outside),
+        Act::Make { to, class } => effect::make(frames, objects, top, tally, pc, to, class),
+        Act::Call { method, first } => effect::call(t, frames, top, tally, method, first),
+        Act::Exit(value) => effect::leave(frames, top, tally, value),
+        Act::Raise(object) => effect::with_status(tally, Status::Raised(object)),
+        Act::Fail(fault) => effect::with_status(tally, Status::Failed(fault)),
+    }
 }
 
 // A step with an object pending.
@@ -141,19 +94,20 @@ fn unwind(t: &[u64; 768], frames: &mut [u64], objects: &[u64], tally: Tally, o: 
     })
 }
 
-// One step, or what stops it.
-pub fn advance(
+// One such step: what the instruction at address `pc` came to, or what a pending object does.
+pub fn turn(
     t: &[u64; 768],
     frames: &mut [u64],
     objects: &mut [u64],
-    statics: &mut [u64],
     tally: Tally,
+    pc: u8,
+    act: Act,
 ) -> Turn
-    ensures turn { λ r. ⌜ ((s : State) → (before : Lent) → Formed (programIn (now (t .entry))) → Shaped (programIn (now (t .entry))) s → Lies s before tally (lent (now (frames .entry)) (now (objects .entry)) (now (statics .entry))) → Turned (stopOf (programIn (now (t .entry))) s) (step (programIn (now (t .entry))) s) s before tally r (lent (now (frames .exit)) (now (objects .exit)) (now (statics .exit)))) ⌝ }
+    ensures turn { λ r. ⌜ ((s : State) → (before : Lent) → (st : List ℕ) → Formed (programIn (now (t .entry))) → Shaped (programIn (now (t .entry))) s → Lies s before tally (lent (now (frames .entry)) (now (objects .entry)) st) → (tally .status ≡ Running → Pausing (programIn (now (t .entry))) before tally (lent (now (frames .entry)) (now (objects .entry)) st) s pc act) → Turned (stopOf (programIn (now (t .entry))) s) (step (programIn (now (t .entry))) s) s before tally r (lent (now (frames .exit)) (now (objects .exit)) st)) ⌝ }
 {
     let status = tally.status;
     match status {
-        Status::Running => execute(t, frames, objects, statics, tally),
+        Status::Running => apply(t, frames, objects, tally, pc, act),
         Status::Raised(o) => unwind(t, frames, objects, tally, o),
         Status::Done => Turn::Stopped(Halt::Done),
         Status::Uncaught(o) => Turn::Stopped(Halt::Uncaught),

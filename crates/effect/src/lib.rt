@@ -7,36 +7,16 @@ use turn::Turn;
 ghost use mathlib.Core.Path.{_≡_};
 ghost use mathlib.Core.List.{List};
 ghost use Prim.Native.Nat.{ℕ, _+_, _-_};
-ghost use lib.ListN.{getD, set};
+ghost use lib.ListN.{getD};
 ghost use Rattle.program.specs.Program.{Program, registers, arguments};
 ghost use Rattle.program.specs.Tables.{programIn};
 ghost use Rattle.machine.specs.declared.Effect.the-variants.{Make, Call};
 ghost use Rattle.memory.specs.Memory.{valueWord, valueIn};
-ghost use Rattle.memory.specs.Writes.{framePlace, objectPlace};
+ghost use Rattle.memory.specs.Writes.{framePlace};
 ghost use Rattle.turn.specs.declared.Turn.the-variants.{Went};
 ghost use Rattle.turn.specs.declared.Status.the-variants.{Running, Done};
 ghost use Rattle.turn.specs.Lies.{lent};
-ghost use Rattle.turn.specs.Applied.{wroteWords, following, resultWords, exitedWords, withStatus, leaving, Applied};
-
-// Frame `top` goes to an address.
-pub fn go(frames: &mut [u64], top: u8, tally: Tally, to: usize) -> Turn
-    ensures turn { λ r. ⌜ r ≡ Went tally ⌝ }
-    ensures memory { λ r. ⌜ now (frames .exit) ≡ set (now (frames .entry)) (framePlace top 1) to ⌝ }
-{
-    memory::put_address(frames, top, to);
-    Turn::Went(tally)
-}
-
-// A register of frame `top` takes a value, and the frame goes one on.
-pub fn write(frames: &mut [u64], top: u8, tally: Tally, pc: u8, to: u8, v: Value) -> Turn
-    ensures turn { λ r. ⌜ r ≡ Went tally ⌝ }
-    ensures memory { λ r. ⌜ now (frames .exit) ≡ wroteWords (now (frames .entry)) top pc to v ⌝ }
-    ensures reads { λ r. ⌜ valueIn (valueWord v) ≡ v ⌝ }
-{
-    memory::put_slot(&mut *frames, top, to as u16 + 1, v);
-    memory::put_address(frames, top, pc as usize + 1);
-    Turn::Went(tally)
-}
+ghost use Rattle.turn.specs.Applied.{following, resultWords, exitedWords, withStatus, leaving, Applied};
 
 // An object is made, and a register of frame `top` refers to it.
 pub fn make(
@@ -54,49 +34,12 @@ pub fn make(
         return Turn::Stopped(Halt::FullStore);
     }
     memory::make(objects, tally.made, class);
-    let next = Tally {
+    settle::write(frames, top, pc, to, Value::Reference(tally.made));
+    Turn::Went(Tally {
         depth: tally.depth,
         made: tally.made + 1,
         status: Status::Running,
-    };
-    write(frames, top, next, pc, to, Value::Reference(tally.made))
-}
-
-// A cell takes a value, and frame `top` goes one on.
-pub fn store(
-    frames: &mut [u64],
-    objects: &mut [u64],
-    top: u8,
-    tally: Tally,
-    pc: u8,
-    o: u32,
-    field: u8,
-    v: Value,
-) -> Turn
-    ensures turn { λ r. ⌜ r ≡ Went tally ⌝ }
-    ensures memory { λ r. ⌜ (now (frames .exit) ≡ set (now (frames .entry)) (framePlace top 1) (pc + 1)) × (now (objects .exit) ≡ set (now (objects .entry)) (objectPlace o (1 + field)) (valueWord v)) ⌝ }
-    ensures reads { λ r. ⌜ valueIn (valueWord v) ≡ v ⌝ }
-{
-    memory::put_cell(objects, o, field, v);
-    go(frames, top, tally, pc as usize + 1)
-}
-
-// A static takes a value, and frame `top` goes one on.
-pub fn store_static(
-    frames: &mut [u64],
-    statics: &mut [u64],
-    top: u8,
-    tally: Tally,
-    pc: u8,
-    place: u8,
-    v: Value,
-) -> Turn
-    ensures turn { λ r. ⌜ r ≡ Went tally ⌝ }
-    ensures memory { λ r. ⌜ (now (frames .exit) ≡ set (now (frames .entry)) (framePlace top 1) (pc + 1)) × (now (statics .exit) ≡ set (now (statics .entry)) place (valueWord v)) ⌝ }
-    ensures reads { λ r. ⌜ valueIn (valueWord v) ≡ v ⌝ }
-{
-    memory::put_value(statics, place as usize, v);
-    go(frames, top, tally, pc as usize + 1)
+    })
 }
 
 // The registers of a method before its arguments.

@@ -160,7 +160,7 @@ pub fn bits(z: i32) -> u32
 }
 
 // The condition of a number: what is none of 0 to 4 is le.
-fn condition_of(n: u8) -> Condition
+pub fn condition_of(n: u8) -> Condition
     ensures value { λ r. ⌜ r ≡ conditionOf n ⌝ }
 {
     match n {
@@ -187,7 +187,7 @@ fn condition_number(c: Condition) -> u64
 }
 
 // The operation of a number: what is none of 0 to 9 is ushr.
-fn operation_of(n: u32) -> Operation
+pub fn operation_of(n: u32) -> Operation
     ensures value { λ r. ⌜ r ≡ operationOf n ⌝ }
 {
     match n {
@@ -224,7 +224,7 @@ fn operation_number(o: Operation) -> u64
 }
 
 // The operation of a number: what is not 0 is not.
-fn unary_of(n: u8) -> Unary
+pub fn unary_of(n: u8) -> Unary
     ensures value { λ r. ⌜ r ≡ unaryOf n ⌝ }
 {
     match n {

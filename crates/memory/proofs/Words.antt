@@ -1,12 +1,12 @@
 -- What stands in words after some are made zero, and after some are copied. Assumes nothing.
 -- After one is set: `getD-set-same`, `getD-set-other` (lib.Seq), `length-set` (lib.ListN).
-use mathlib.Core.Path.{_≡_, refl, _∙_}
-use mathlib.Core.List.{List}
-use Prim.Native.Nat.{ℕ, zero, suc, _+_, _≤_, _<_}
+use mathlib.Core.Path.{_≡_, refl, sym, ap, _∙_}
+use mathlib.Core.List.{List, _++_}
+use Prim.Native.Nat.{ℕ, zero, suc, _+_, _-_, _≤_, _<_, min}
 use native.Mathlib.Decide.{decLt}
 use native.Mathlib.Omega.{arith}
-use lib.ListN.{length, getD, set, length-set, List·getD-eq-default}
-use lib.Seq.{getD-set-same, getD-set-other}
+use lib.ListN.{length, getD, set, take, drop, length-set, length-append, length-drop, List·getD-eq-default, List·getD-append}
+use lib.Seq.{getD-set-same, getD-set-other, getD-take, getD-drop, getD-append-add, length-take-le, ext-getD}
 use Rattle.memory.specs.Writes.{cleared, copied}
 
 -- ---- made zero
@@ -46,6 +46,55 @@ module _ (ws : List ℕ) (from : ℕ) where
   cleared-after zero q l = refl
   cleared-after (suc n) q l =
       getD-set-other (cleared n ws from) (from + n) q 0 0 (λ e. omega arith) ∙ cleared-after n q (omega arith)
+
+-- the same words, as a part of zeros between what stood before it and after it
+module _ (ws part : List ℕ) (start end : ℕ) (o : start ≤ end) (u : end ≤ length ws) (l : length part ≡ end - start) where
+  abbrev whole : List ℕ
+  whole = take start ws ++ (part ++ drop end ws)
+
+  length-first : length (take start ws) ≡ start
+  length-first = length-take-le start ws (omega arith)
+
+  length-whole : length whole ≡ length ws
+  length-whole =
+      length-append (take start ws) (part ++ drop end ws)
+      ∙ omega (arith, length-first, length-append part (drop end ws), length-drop end ws)
+
+  whole-before : (q : ℕ) → q < start → getD whole q 0 ≡ getD ws q 0
+  whole-before q h =
+      List·getD-append (take start ws) (part ++ drop end ws) 0 q (omega (arith, length-first))
+      ∙ getD-take start ws q 0 h
+
+  whole-from : (q : ℕ) → start ≤ q → getD whole q 0 ≡ getD (part ++ drop end ws) (q - start) 0
+  whole-from q h =
+      let e : q ≡ length (take start ws) + (q - start) = omega (arith, length-first) in
+      ap (λ (k : ℕ). getD whole k 0) e
+      ∙ getD-append-add (take start ws) (part ++ drop end ws) (q - start) 0
+
+  whole-in : (q : ℕ) → start ≤ q → q < end → getD whole q 0 ≡ getD part (q - start) 0
+  whole-in q h k = whole-from q h ∙ List·getD-append part (drop end ws) 0 (q - start) (omega arith)
+
+  whole-after : (q : ℕ) → end ≤ q → getD whole q 0 ≡ getD ws q 0
+  whole-after q h =
+      let e : q - start ≡ length part + (q - end) = omega arith in
+      let f : end + (q - end) ≡ q = omega arith in
+      whole-from q (omega arith)
+      ∙ ap (λ (k : ℕ). getD (part ++ drop end ws) k 0) e
+      ∙ getD-append-add part (drop end ws) (q - end) 0
+      ∙ getD-drop end ws (q - end) 0
+      ∙ ap (λ (k : ℕ). getD ws k 0) f
+
+  pub cleared-part : (from count : ℕ) → end ≡ min (from + count) (length ws) → start ≡ min from end
+      → ((i : ℕ) → i < length part → getD part i 0 ≡ 0) → whole ≡ cleared count ws from
+  cleared-part from count e s z =
+      ext-getD 0 whole (cleared count ws from) (length-whole ∙ sym (length-cleared ws from count)) λ q h.
+      elim (decLt q start) [
+        | yes b ↦ whole-before q b ∙ sym (cleared-before ws from count q (omega arith))
+        | no b ↦ elim (decLt q end) [
+          | yes k ↦ whole-in q (omega arith) k ∙ z (q - start) (omega arith) ∙ sym (cleared-in ws from count q (omega arith) (omega arith))
+          | no k ↦ whole-after q (omega arith) ∙ sym (cleared-after ws from count q (omega (arith, length-whole)))
+        ]
+      ]
 
 -- ---- copied
 

@@ -2,8 +2,8 @@
 // takes any words and any numbers; past the end a read is 0 and a write does nothing.
 use machine::Value;
 ghost use mathlib.Core.Path.{_≡_};
-ghost use Prim.Native.Nat.{_+_};
-ghost use lib.ListN.{getD, set};
+ghost use Prim.Native.Nat.{suc, _+_, min};
+ghost use lib.ListN.{getD, set, length};
 ghost use Rattle.memory.specs.Memory.{valueWord, valueIn};
 ghost use Rattle.memory.specs.Writes.{framePlace, objectPlace, classIn, cleared, copied};
 
@@ -96,15 +96,39 @@ pub fn put_slot(frames: &mut [u64], top: u8, k: u16, v: Value)
     put_value(frames, 19 * (top as usize) + (2 + k as usize), v);
 }
 
+// A register of frame `top`.
+pub fn register(frames: &[u64], top: u8, r: u8) -> Value
+    ensures value { λ v. ⌜ v ≡ valueIn (getD (now (frames .entry)) (framePlace top (2 + suc r)) 0) ⌝ }
+{
+    slot(frames, top, r as u16 + 1)
+}
+
+// Makes every word zero.
+fn zero(ws: &mut [u64])
+    ensures memory { λ _. ⌜ now (ws .exit) ≡ cleared (length (now (ws .entry))) (now (ws .entry)) 0 ⌝ }
+{
+    let mut i: usize = 0;
+    while i < ws.len() {
+        ws[i] = 0;
+        i += 1;
+    }
+}
+
+// The lesser of two numbers.
+fn least(a: usize, b: usize) -> usize
+    ensures value { λ r. ⌜ r ≡ min a b ⌝ }
+{
+    if a < b { a } else { b }
+}
+
 // Makes `count` words zero, from a place on.
 pub fn clear(ws: &mut [u64], from: u32, count: u32)
     ensures memory { λ _. ⌜ now (ws .exit) ≡ cleared count (now (ws .entry)) from ⌝ }
 {
-    let mut i: u32 = 0;
-    while i < count {
-        put_word(&mut *ws, from as usize + i as usize, 0);
-        i += 1;
-    }
+    let n = ws.len();
+    let end = least(from as usize + count as usize, n);
+    let start = least(from as usize, end);
+    zero(&mut ws[start..end]);
 }
 
 // Copies `count` words, from the first on.

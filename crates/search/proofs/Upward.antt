@@ -11,6 +11,8 @@ use Rattle.search.specs.declared.Callee.{Callee}
 use Rattle.search.specs.declared.Callee.the-variants.{Found, Missing}
 use Rattle.program.specs.Program.{Program, superclass}
 use Rattle.search.specs.Search.{belowIn, below, methodIn, orUpward, calleeIn, virtualCallee}
+use Rattle.search.specs.Number.{calleeNumber}
+use Rattle.search.proofs.Numbers.{number-missing}
 
 -- an answer by steps: `own c rest` at class c, where the rest is the answer from above, or `none` where the way ends
 module _ {A : Type 0} (up : ℕ → ℕ) (own : ℕ → A → A) (none : A) (answer : ℕ → ℕ → A)
@@ -54,6 +56,10 @@ or-missing : (r : Callee) → r ≡ orUpward r Missing
 or-missing (Found m) = refl
 or-missing Missing = refl
 
+or-own : (r other : Callee) → (calleeNumber r ≡ 0 → ⊥) → orUpward r other ≡ r
+or-own (Found m) other has = refl
+or-own Missing other has = absurd (has refl)
+
 module _ (p : Program) where
   module _ (c top : ℕ) where
     pub below-step : below p c top ≡ eqb c top || pick (ltb (superclass p c) c) (below p (superclass p c) top) false
@@ -84,13 +90,18 @@ module _ (p : Program) where
         (λ n k. refl)
         c
 
-    pub callee-own : (m : ℕ) → methodIn p c name count ≡ Found m → virtualCallee p c name count ≡ Found m
-    callee-own m e = callee-step ∙ rw e
+    -- by the number of the method that class c itself has
+    module _ (found : ℕ) (own : found ≡ calleeNumber (methodIn p c name count)) where
+      pub callee-own : (found ≡ 0 → ⊥) → found ≡ calleeNumber (virtualCallee p c name count)
+      callee-own has = own ∙ ap calleeNumber (sym (callee-step ∙ or-own (methodIn p c name count) _ (λ e. has (own ∙ e))))
 
-    -- where class c has none, of superclass s
-    module _ (lacks : methodIn p c name count ≡ Missing) (s : ℕ) (e : s ≡ superclass p c) where
-      pub callee-above : s < c → virtualCallee p c name count ≡ virtualCallee p s name count
-      callee-above l = rw (e, callee-step, lacks, lt-ltb (superclass p c) c (rw e at l))
+      -- where it has none, of superclass s
+      module _ (lacks : found ≡ 0) (s : ℕ) (e : s ≡ superclass p c) where
+        missing : methodIn p c name count ≡ Missing
+        missing = number-missing (methodIn p c name count) found own lacks
 
-      pub callee-end : c ≤ s → virtualCallee p c name count ≡ Missing
-      callee-end l = rw (callee-step, lacks, le-ltb (superclass p c) c (rw e at l))
+        pub callee-above : s < c → virtualCallee p c name count ≡ virtualCallee p s name count
+        callee-above l = rw (e, callee-step, missing, lt-ltb (superclass p c) c (rw e at l))
+
+        pub callee-end : c ≤ s → virtualCallee p c name count ≡ Missing
+        callee-end l = rw (callee-step, missing, le-ltb (superclass p c) c (rw e at l))

@@ -4,6 +4,7 @@ ghost use mathlib.Core.Path.{_≡_};
 ghost use Prim.Native.Nat.{ℕ};
 ghost use Rattle.program.specs.Tables.{programIn};
 ghost use Rattle.search.specs.Search.{below, hasField, methodIn, virtualCallee, answers, catches, handlerFor};
+ghost use Rattle.search.specs.Number.{calleeNumber};
 
 // What a virtual search finds: the method, or none.
 pub enum Callee {
@@ -58,33 +59,45 @@ fn answers(t: &[u64; 768], c: usize, name: usize, count: usize, m: usize) -> boo
     program::arguments(t, m) == count
 }
 
-// The method of class c itself that a virtual call leads to.
-fn method_in(t: &[u64; 768], c: usize, name: usize, count: usize) -> Callee
-    ensures value { λ r. ⌜ r ≡ methodIn (programIn (now (t .entry))) c name count ⌝ }
+// The method of class c itself that a virtual call leads to, and one more; 0 where there is none.
+fn method_in(t: &[u64; 768], c: usize, name: usize, count: usize) -> usize
+    ensures value { λ r. ⌜ r ≡ calleeNumber (methodIn (programIn (now (t .entry))) c name count) ⌝ }
 {
     let n = program::method_count(t);
     let mut m: usize = 0;
     while m < n {
         if answers(t, c, name, count, m) {
-            return Callee::Found(m);
+            return m + 1;
         }
         m += 1;
     }
-    Callee::Missing
+    0
+}
+
+// The same from class c upward. The class number falls at each call.
+fn seek(t: &[u64; 768], c: usize, name: usize, count: usize) -> usize
+    ensures value { λ r. ⌜ r ≡ calleeNumber (virtualCallee (programIn (now (t .entry))) c name count) ⌝ }
+{
+    let found = method_in(t, c, name, count);
+    if found != 0 {
+        return found;
+    }
+    let above = program::superclass(t, c);
+    if above < c {
+        return seek(t, above, name, count);
+    }
+    0
 }
 
 // The method that a virtual call leads to from class c: in c, then upward.
 pub fn virtual_callee(t: &[u64; 768], c: usize, name: usize, count: usize) -> Callee
     ensures value { λ r. ⌜ r ≡ virtualCallee (programIn (now (t .entry))) c name count ⌝ }
 {
-    let Callee::Found(m) = method_in(t, c, name, count) else {
-        let above = program::superclass(t, c);
-        if above < c {
-            return virtual_callee(t, above, name, count);
-        }
+    let found = seek(t, c, name, count);
+    if found == 0 {
         return Callee::Missing;
-    };
-    Callee::Found(m)
+    }
+    Callee::Found(found - 1)
 }
 
 // Whether handler h of method m covers the address and catches the class.

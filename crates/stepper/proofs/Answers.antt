@@ -21,7 +21,7 @@ use Rattle.bounded.specs.declared.Outcome.{Outcome}
 use Rattle.bounded.specs.declared.Outcome.the-variants.{Refused, Short}
 use Rattle.bounded.specs.Bounded.{bounded}
 use Rattle.bounded.specs.Step.{Stepping, turnedDown, enough, steppingBy, stepping, steppingNumber, steppingValues, framesAfter, objectsAfter, staticsAfter, numberOf, valuesOf}
-use Rattle.stepper.specs.Inside.{Finished}
+use Rattle.runner.specs.Inside.{Finished}
 
 -- the promise of `step`
 abbrev pub Answered : Stepping → Outcome → Lent → Lent → Type 0

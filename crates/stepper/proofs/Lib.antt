@@ -1,3 +1,3 @@
 -- What the proofs of the stepper's functions use.
-pub mod Loop
+pub mod Begun
 pub mod Answers

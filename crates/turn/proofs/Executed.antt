@@ -2,26 +2,25 @@
 use mathlib.Core.Path.{_≡_, refl, sym, ap, _∙_}
 use mathlib.Core.List.{List, _∷_}
 use mathlib.Core.Option.{none}
-use Prim.Native.Nat.{ℕ, zero, suc, _+_, _<_}
+use Prim.Native.Nat.{ℕ, zero, suc, _<_}
 use native.Mathlib.Omega.{arith}
-use lib.ListN.{length, getD}
+use lib.ListN.{length}
 use borrow.Author.Tests.{lt-ltb}
-use Rattle.instruction.specs.declared.Instruction.{Instruction}
 use Rattle.program.specs.Program.{Program, codeLength, instructionAt, handlerTarget}
+use Rattle.reader.specs.Formed.{Formed}
 use Rattle.search.specs.declared.Handling.{Handling}
 use Rattle.search.specs.declared.Handling.the-variants as handling
 use Rattle.search.specs.Search.{handlerFor}
 use Rattle.values.specs.Values.{limitsOf}
 use Rattle.machine.specs.declared.Value.{Value}
 use Rattle.machine.specs.declared.Value.the-variants.{Number, Reference}
-use Rattle.machine.specs.declared.Effect.{Effect}
 use Rattle.machine.specs.State.{Frame, Status, running, raised, State, classOf, objectAt}
 use Rattle.machine.specs.Decide.{decide}
 use Rattle.machine.specs.Run.{step}
 use Rattle.machine.specs.Shaped.{Known, Shaped}
 use Rattle.machine.proofs.Continues.{At, effectAt, step-running, step-raised}
 use Rattle.machine.proofs.Fitting.{method-exists, top-shaped, decided-fits}
-use Rattle.decide.specs.Slots.{slot, firstSlot, secondSlot}
+use Rattle.turn.specs.Slots.{slot, firstSlot, secondSlot}
 use Rattle.memory.specs.Memory.{valueWord, valueIn}
 use Rattle.memory.specs.Writes.{framePlace, classIn, cleared}
 use Rattle.turn.specs.declared.Tally.{Tally}
@@ -32,6 +31,7 @@ use Rattle.turn.specs.declared.Whereabouts.the-variants.{Inside}
 use Rattle.turn.specs.Stop.{room, stopBy, stopOf}
 use Rattle.turn.specs.Lies.{Lent, lent, Lies, Turned}
 use Rattle.turn.specs.Applied.{whereIn, resultWords, withStatus, leaving, Applied, Stepped}
+use Rattle.turn.specs.Acts.{Sees}
 use Rattle.turn.proofs.Top.{top-lies}
 use Rattle.turn.proofs.Effects.{held, registers-few}
 use Rattle.turn.proofs.Leave.{dropped-lies, caught-lies}
@@ -68,13 +68,26 @@ module _ (p : Program) (s : State) (f : Frame) (rest : List Frame) where
 
 -- ---- a running state
 
-module _ (p : Program) (t : Tally) (now after : Lent) (top m a : ℕ) (i : Instruction) (left right : Value) (class : ℕ) (e : Effect) (r : Turn)
-    (at : whereIn p (now .frames) (t .depth) ≡ Inside top m a) (read : i ≡ instructionAt p m a)
-    (first : left ≡ valueIn (getD (now .frames) (framePlace top (2 + firstSlot i)) 0))
-    (second : right ≡ valueIn (getD (now .frames) (framePlace top (2 + secondSlot i)) 0))
-    (classed : class ≡ classIn (now .objects) left)
-    (decided : (s : State) → (f : Frame) → left ≡ slot f (firstSlot i) → right ≡ slot f (secondSlot i) → class ≡ classOf s left → e ≡ decide p s f i)
-    (applied : Applied p e top a t now r after) where
+-- the instruction at the top frame's address sees what memory says
+pub seen : (p : Program) → Formed p → (s : State) (before : Lent) (t : Tally) (now : Lent) → Shaped p s → Lies s before t now
+    → (top m a : ℕ) (f : Frame) (rest : List Frame) → Found p s top m a f rest → Sees (instructionAt p m a) top now s f
+seen p formed s before t now shaped lies top m a f rest fd =
+    let exists = formed .methods (f .method) (method-exists p (f .method) (f .address) (fd .inside)) in
+    let it = top-lies f rest (before .frames) (now .frames) (rw (fd .frames) at (lies .frames)) in
+    let same : instructionAt p m a ≡ instructionAt p (f .method) (f .address) = rw (fd .method, fd .address) refl in
+    let i = instructionAt p m a in
+    let names = exists .names (f .address) (fd .inside) in
+    let low = first-low (limitsOf p (f .method)) (registers-few p formed (f .method)) i (rw same names) in
+    let low-2 = second-low (limitsOf p (f .method)) (registers-few p formed (f .method)) i (rw same names) in
+    record {
+      first = rw (fd .height) (it .slots (firstSlot i) low .reads);
+      second = rw (fd .height) (it .slots (secondSlot i) low-2 .reads);
+      class = class-of s before t now lies (slot f (firstSlot i)) (known-slot p s shaped f rest (fd .frames) (firstSlot i));
+    }
+
+-- what it decides is applied
+module _ (p : Program) (t : Tally) (now after : Lent) (top m a : ℕ) (r : Turn) (at : whereIn p (now .frames) (t .depth) ≡ Inside top m a)
+    (applied : (s : State) (f : Frame) → Sees (instructionAt p m a) top now s f → Applied p (decide p s f (instructionAt p m a)) top a t now r after) where
   pub executed : Stepped p running t now r after
   executed s before st formed shaped lies = found-in p s before t now lies top m a at body
     where
@@ -82,18 +95,11 @@ module _ (p : Program) (t : Tally) (now after : Lent) (top m a : ℕ) (i : Instr
       body f rest fd =
           let here : At p s running f rest = record { status = st; frames = fd .frames; inside = fd .inside } in
           let exists = formed .methods (f .method) (method-exists p (f .method) (f .address) (fd .inside)) in
-          let it = top-lies f rest (before .frames) (now .frames) (rw (fd .frames) at (lies .frames)) in
-          let same : i ≡ instructionAt p (f .method) (f .address) = read ∙ rw (fd .method, fd .address) refl in
-          let names = exists .names (f .address) (fd .inside) in
-          let low = first-low (limitsOf p (f .method)) (registers-few p formed (f .method)) i (rw same names) in
-          let low-2 = second-low (limitsOf p (f .method)) (registers-few p formed (f .method)) i (rw same names) in
-          let left-is : left ≡ slot f (firstSlot i) = first ∙ rw (fd .height) (it .slots (firstSlot i) low .reads) in
-          let right-is : right ≡ slot f (secondSlot i) = second ∙ rw (fd .height) (it .slots (secondSlot i) low-2 .reads) in
-          let known : Known (length (s .objects)) left = rw left-is (known-slot p s shaped f rest (fd .frames) (firstSlot i)) in
-          let class-is : class ≡ classOf s left = classed ∙ class-of s before t now lies left known in
-          let e-is : e ≡ decide p s f (instructionAt p (f .method) (f .address)) = decided s f left-is right-is class-is ∙ ap (decide p s f) same in
+          let same : instructionAt p m a ≡ instructionAt p (f .method) (f .address) = rw (fd .method, fd .address) refl in
+          let i = instructionAt p m a in
+          let e-is : decide p s f i ≡ decide p s f (instructionAt p (f .method) (f .address)) = ap (decide p s f) same in
           let turned =
-          applied s f rest before
+          applied s f (seen p formed s before t now shaped lies top m a f rest fd) s f rest before
           (record {
             frames = fd .frames;
             running = st;

@@ -10,7 +10,7 @@ use borrow.Author.Tests.{eq-eqb, ne-eqb}
 use Rattle.machine.specs.State.{Frame, noFrame}
 use Rattle.machine.specs.Shaped.{Every}
 use Rattle.machine.specs.Run.{moved}
-use Rattle.decide.specs.Slots.{slot}
+use Rattle.turn.specs.Slots.{slot}
 use Rattle.memory.specs.Memory.{valueIn, frameAt}
 use Rattle.memory.specs.Writes.{framePlace}
 use Rattle.turn.specs.Lies.{Held, FrameLies, FramesLie, Waiting}

@@ -15,7 +15,7 @@ use Rattle.program.proofs.Lists.{tab-cong, tab-getD}
 use Rattle.machine.specs.declared.Value.{Value}
 use Rattle.machine.specs.State.{Frame, Object, State, null, objectAt, static, start}
 use Rattle.machine.proofs.Elements.{replicate-at}
-use Rattle.decide.specs.Slots.{slot}
+use Rattle.turn.specs.Slots.{slot}
 use Rattle.memory.specs.Memory.{valueWord, frameWord, objectWord, frameAt, framesOf, objectsOf, staticsOf}
 use Rattle.memory.specs.Writes.{framePlace, objectPlace, cleared}
 use Rattle.memory.proofs.Words.{length-cleared, cleared-in, cleared-after}

@@ -9,4 +9,5 @@ pub mod Leave
 pub mod Steps
 pub mod Slots
 pub mod Executed
+pub mod Acts
 pub mod Laid

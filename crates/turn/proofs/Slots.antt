@@ -6,7 +6,7 @@ use Rattle.instruction.specs.declared.Instruction.{Instruction}
 use Rattle.instruction.specs.declared.Instruction.the-variants.{Nop, Move, Const, Goto, If, IfZero, Binop, Unop, NewInstance, Iget, Iput, Sget, Sput, InvokeVirtual, InvokeStatic, MoveResult, MoveException, Return, ReturnVoid, Throw, InstanceOf, CheckCast}
 use Rattle.instruction.specs.Test.{Holds}
 use Rattle.operands.specs.Names.{named}
-use Rattle.decide.specs.Slots.{firstSlot, secondSlot}
+use Rattle.turn.specs.Slots.{firstSlot, secondSlot}
 
 module _ (l : Limits) (few : l .registers ≤ 16) where
   pub first-low : (i : Instruction) → Holds (named l i) → firstSlot i < 17

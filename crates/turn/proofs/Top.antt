@@ -14,7 +14,7 @@ use Rattle.program.proofs.Lists.{getD-tab, getD-tab-out}
 use Rattle.machine.specs.declared.Value.{Value}
 use Rattle.machine.specs.State.{Frame, null, noFrame, register}
 use Rattle.machine.specs.Run.{moved, wrote, resumed, entered}
-use Rattle.decide.specs.Slots.{slot}
+use Rattle.turn.specs.Slots.{slot}
 use Rattle.memory.specs.Writes.{framePlace, cleared, copied}
 use Rattle.memory.proofs.Words.{cleared-in, length-copied, copied-before, copied-in, copied-after}
 use Rattle.turn.specs.Lies.{Held, FrameLies, FramesLie}

@@ -1,3 +1,5 @@
 pub mod Stop
+pub mod Slots
 pub mod Lies
 pub mod Applied
+pub mod Acts

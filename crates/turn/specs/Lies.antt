@@ -8,7 +8,7 @@ use lib.ListN.{length, getD}
 use Rattle.machine.specs.declared.Value.{Value}
 use Rattle.machine.specs.State.{Frame, Object, Status, running, raised, done, uncaught, failed, State, null, noObject}
 use Rattle.machine.specs.Shaped.{Every}
-use Rattle.decide.specs.Slots.{slot}
+use Rattle.turn.specs.Slots.{slot}
 use Rattle.memory.specs.Memory.{valueWord, valueIn, frameAt}
 use Rattle.memory.specs.Writes.{framePlace, objectPlace}
 use Rattle.turn.specs.declared.Halt.{Halt}

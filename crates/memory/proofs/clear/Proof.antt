@@ -1,74 +1,74 @@
--- `memory::clear` meets its contract. The invariant: the words up to i are zero. Assumes nothing.
-use mathlib.Core.Path.{_≡_, refl, ap, _∙_}
-use mathlib.Core.List.{List}
-use Prim.Native.Nat.{ℕ, _+_, _-_, _≤_}
-use native.Mathlib.Numerals.{add-one}
+-- `memory::clear` meets its contract. Assumes nothing.
+use mathlib.Core.Path.{_≡_, ap, _∙_}
+use mathlib.Core.List.{List, _++_}
+use Prim.Native.Nat.{ℕ, _+_, _-_, min}
 use native.Mathlib.Omega.{arith}
-use lib.ListN.{set, length}
+use lib.ListN.{length, getD, take}
+use borrow.Rule.Slice.PartMut.{midOf, putMid, post-is, mid-len}
 use Rattle.memory.specs.Writes.{cleared}
-use Rattle.memory.proofs.Words.{length-cleared}
+use Rattle.memory.proofs.Words.{length-cleared, cleared-in, cleared-part}
 use Rattle.memory.proofs.clear.Statement.{statement}
 use Rattle.memory.proofs.clear.Tie as tie
 
-abbrev Inv-loop : tie.InvT-loop
-Inv-loop ws₀ from count i₀ ws i = (i ≤ count) × (ws ≡ cleared i ws₀ from)
+-- the part that was lent, with zeros in its place
+zeros : (ws part : List ℕ) (from count start end : ℕ) → end ≡ min (from + count) (length ws) → start ≡ min from end
+    → part ≡ cleared (length (midOf start (end - start) ws)) (midOf start (end - start) ws) 0
+    → putMid start (end - start) ws part ≡ cleared count ws from
+zeros ws part from count start end e s z =
+    let mid = midOf start (end - start) ws in
+    let l : length part ≡ length mid = ap length z ∙ length-cleared mid 0 (length mid) in
+    ap (λ (after : List ℕ). take start ws ++ (part ++ after)) (post-is start end ws (omega arith))
+    ∙ cleared-part ws part start end (omega arith) (omega arith) (l ∙ mid-len start end ws (omega arith)) from count e s
+    (λ i h. ap (λ (p : List ℕ). getD p i 0) z ∙ cleared-in mid 0 (length mid) i (omega arith) (omega arith))
 
-abbrev μ-loop : tie.MeasureT-loop
-μ-loop ws₀ from count i₀ ws i = count - i
+add-least : tie.Need-add-least
+add-least c = omega arith
 
--- one word more
-step : (ws₀ ws ws′ : List ℕ) (from i : ℕ) → ws′ ≡ set ws (from + i) 0 → ws ≡ cleared i ws₀ from → ws′ ≡ cleared (i + 1) ws₀ from
-unfolding cleared
-step ws₀ ws ws′ from i e h = rw (add-one i) (e ∙ ap (λ (l : List ℕ). set l (from + i) 0) h)
+least-requires : tie.Need-least-requires
+least-requires c κs = tt
 
-loop-holds : tie.Need-loop-holds Inv-loop μ-loop
-unfolding cleared
-loop-holds c = (omega arith, refl)
+least-requires-2 : tie.Need-least-requires-2
+least-requires-2 c κs = tt
 
-cast-put-word : tie.Need-cast-put-word Inv-loop μ-loop
-cast-put-word c = omega arith
+mul-zero : tie.Need-mul-zero
+mul-zero c = omega arith
 
-add-put-word : tie.Need-add-put-word Inv-loop μ-loop
-add-put-word c = omega arith
+sub-zero : tie.Need-sub-zero
+sub-zero c = omega arith
 
-put-word-requires : tie.Need-put-word-requires Inv-loop μ-loop
-put-word-requires c κs = tt
+part-zero-start : tie.Need-part-zero-start
+part-zero-start c = omega arith
 
-add-i : tie.Need-add-i Inv-loop μ-loop
-add-i c = omega arith
+part-zero-end : tie.Need-part-zero-end
+part-zero-end c = omega arith
 
-loop-less : tie.Need-loop-less Inv-loop μ-loop
-loop-less c = omega arith
+zero-requires : tie.Need-zero-requires
+zero-requires c κs = tt
 
-loop-again : tie.Need-loop-again Inv-loop μ-loop
-loop-again c =
-    let at = c .before .before .before .before .before .loop in
-    let args = c .before .before .before .before .before .before .before .args in
-    (omega arith, step (args .ws .now) (at .ws) (c .before .before .put-word .last .0) (args .from) (at .i) (c .before .before .put-word .ensures) (at .inv .1))
+same-length : tie.Need-same-length
+same-length c = c .before .ws .given .1
 
-same-length : tie.Need-same-length Inv-loop μ-loop
-same-length c =
-    let args = c .before .before .before .args in
-    ap length (c .before .loop .inv .1) ∙ length-cleared (args .ws .now) (args .from) (c .before .loop .i)
-
-returns : tie.Need-returns Inv-loop μ-loop
+returns : tie.Need-returns
 returns c =
-    let args = c .before .before .before .args in
-    let e : c .before .loop .i ≡ args .count = omega arith in
-    c .before .loop .inv .1 ∙ ap (λ (n : ℕ). cleared n (args .ws .now) (args .from)) e
+    let args = c .before .before .before .before .before .before .before .args in
+    let ws = args .ws .now in
+    let end = c .before .before .before .before .before .least .result in
+    let start = c .before .before .before .before .least2 .result in
+    let end-is : end ≡ min (args .from + args .count) (length ws) = c .before .before .before .before .before .least .ensures in
+    let start-is : start ≡ min (args .from) end = c .before .before .before .before .least2 .ensures in
+    zeros ws (c .before .before .zero .last .0) (args .from) (args .count) start end end-is start-is (c .before .before .zero .ensures)
 
 pub clear-spec : {M : Type 1} → statement M
 clear-spec =
     tie.close
     (tie.spec
-    Inv-loop
-    μ-loop
-    loop-holds
-    cast-put-word
-    add-put-word
-    put-word-requires
-    add-i
-    loop-less
-    loop-again
+    add-least
+    least-requires
+    least-requires-2
+    mul-zero
+    sub-zero
+    part-zero-start
+    part-zero-end
+    zero-requires
     same-length
     returns)

@@ -1,12 +1,13 @@
 -- `search::method_in` meets its contract. The loop's invariant: no method before m answers. The measure is how many are left.
 -- Assumes nothing.
-use mathlib.Core.Path.{_≡_, sym}
+use mathlib.Core.Path.{_≡_, sym, ap}
 use mathlib.Core.Bool.{false}
 use Prim.Native.Nat.{ℕ, _≤_, _<_, _-_}
 use native.Mathlib.Omega.{arith}
 use borrow.Author.Count.{below-none, below-more}
 use Rattle.program.specs.Program.{methodCount}
 use Rattle.search.specs.Search.{answers}
+use Rattle.search.specs.Number.{calleeNumber}
 use Rattle.program.specs.Tables.{programIn}
 use Rattle.search.proofs.Searches.{method-found, method-missing}
 use Rattle.search.proofs.method_in.Statement.{statement}
@@ -27,13 +28,17 @@ loop-holds c = below-none _
 answers-requires : tie.Need-answers-requires Inv-loop μ-loop
 answers-requires c κs = tt
 
+add-result : tie.Need-add-result Inv-loop μ-loop
+add-result c = omega arith
+
 returns : tie.Need-returns Inv-loop μ-loop
 returns c =
     let b = c .before .before .before in
     let a = b .before .before .args in
     let p = programIn (a .t .now) in
     let l : b .loop .m < methodCount p = omega arith in
-    sym (method-found p (a .c) (a .name) (a .count) (b .loop .m) l (b .loop .inv) (rw (c .before .answers .ensures) at (c .if1 .taken)))
+    ap calleeNumber
+    (sym (method-found p (a .c) (a .name) (a .count) (b .loop .m) l (b .loop .inv) (rw (c .before .answers .ensures) at (c .if1 .taken))))
 
 add-m : tie.Need-add-m Inv-loop μ-loop
 add-m c = omega arith
@@ -50,7 +55,7 @@ returns-2 c =
     let a = b .before .before .args in
     let p = programIn (a .t .now) in
     let l : methodCount p ≤ b .loop .m = omega arith in
-    sym (method-missing p (a .c) (a .name) (a .count) (λ k h. b .loop .inv k (omega arith)))
+    ap calleeNumber (sym (method-missing p (a .c) (a .name) (a .count) (λ k h. b .loop .inv k (omega arith))))
 
 pub method-in-spec : {M : Type 1} → statement M
 method-in-spec =
@@ -61,6 +66,7 @@ method-in-spec =
     method-count-requires
     loop-holds
     answers-requires
+    add-result
     returns
     add-m
     loop-less

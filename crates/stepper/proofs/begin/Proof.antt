@@ -1,7 +1,7 @@
 -- `stepper::begin` meets its contract. Assumes nothing.
 use mathlib.Core.Path.{_∙_}
 -- `stepper::begin` meets its contract. Assumes nothing.
-use Rattle.stepper.proofs.Loop.{begun}
+use Rattle.stepper.proofs.Begun.{begun}
 use Rattle.turn.specs.Lies.{lent}
 use Rattle.stepper.proofs.begin.Statement.{statement}
 use Rattle.stepper.proofs.begin.Tie as tie

@@ -1,0 +1,39 @@
+-- `heap::check_cast` meets its contract. Assumes nothing.
+use mathlib.Core.Path.{sym, _∙_}
+use denote.Ref.{now}
+use Rattle.program.specs.Tables.{programIn}
+use Rattle.machine.specs.State.{register}
+use Rattle.machine.specs.Decide.{checkCast}
+use Rattle.heap.proofs.Objects.{decided, cast-settled}
+use Rattle.heap.proofs.check_cast.Statement.{statement}
+use Rattle.heap.proofs.check_cast.Tie as tie
+
+register-requires : tie.Need-register-requires
+register-requires c κs = tt
+
+class-of-requires : tie.Need-class-of-requires
+class-of-requires c κs = tt
+
+check-cast-requires : tie.Need-check-cast-requires
+check-cast-requires c κs = tt
+
+settle-requires : tie.Need-settle-requires
+settle-requires c κs = tt
+
+same-length : tie.Need-same-length
+same-length c = c .before .before .settle .kept .0
+
+returns : tie.Need-returns
+returns c =
+    λ st s f sees.
+    let a = c .before .before .before .before .before .before .before .before .before .before .args in
+    let p = programIn (now (a .t)) in
+    let e = c .before .before .before .before .check-cast .result in
+    let same = decided (λ k v. checkCast p k (a .a) (a .b) v) (now (a .objects)) s (register f (a .a)) _ _ e
+    (c .before .before .before .before .check-cast .ensures) (c .before .before .before .before .before .class-of .ensures) (c .before .before .before .before .before .before .register .ensures ∙ sees .first) (sees .class) in
+    rw (sym same)
+    (c .before .before .settle .ensures p (now (a .objects)) st
+    (cast-settled p (c .before .before .before .before .before .class-of .result) (a .a) (a .b) (c .before .before .before .before .before .before .register .result) e (c .before .before .before .before .check-cast .ensures)))
+
+pub check-cast-spec : {M : Type 1} → statement M
+check-cast-spec = tie.close (tie.spec register-requires class-of-requires check-cast-requires settle-requires same-length returns)

@@ -1,0 +1,49 @@
+-- What arithmetic and branches come to settles inside the frame. Assumes nothing.
+use mathlib.Core.Bool.{Bool, true, false}
+use Prim.Native.Nat.{ℕ}
+use Rattle.instruction.specs.Word.{pick}
+use Rattle.instruction.specs.declared.Condition.{Condition}
+use Rattle.instruction.specs.declared.Condition.the-variants.{Eq, Ne, Lt, Ge, Gt, Le}
+use Rattle.instruction.specs.declared.Operation.{Operation}
+use Rattle.instruction.specs.declared.Unary.{Unary}
+use Rattle.arithmetic.specs.declared.Computed.{Computed}
+use Rattle.arithmetic.specs.declared.Computed.the-variants as computed
+use Rattle.arithmetic.specs.Arithmetic.{computed, inOrder}
+use Rattle.machine.specs.declared.Value.{Value}
+use Rattle.machine.specs.declared.Value.the-variants.{Number, Reference}
+use Rattle.machine.specs.declared.Effect.{Effect}
+use Rattle.machine.specs.declared.Effect.the-variants.{Next, Jump}
+use Rattle.machine.specs.Decide.{computedInto, binop, unop, compared, branch}
+use Rattle.turn.specs.Acts.{Settled}
+
+settled-pick : (b : Bool) (x y : Effect) → Settled x → Settled y → Settled (pick b x y)
+settled-pick true x y h k = h
+settled-pick false x y h k = k
+
+settled-computed : (a : ℕ) (k : Computed) → Settled (computedInto a k)
+settled-computed a (computed.Number z) = tt
+settled-computed a computed.ByZero = tt
+
+pub settled-binop : (a : ℕ) (o : Operation) (v u : Value) → Settled (binop a o v u)
+settled-binop a o (Number x) (Number y) = settled-computed a (computed o x y)
+settled-binop a o (Number x) (Reference r) = tt
+settled-binop a o (Reference q) (Number y) = tt
+settled-binop a o (Reference q) (Reference r) = tt
+
+pub settled-unop : (a : ℕ) (o : Unary) (v : Value) → Settled (unop a o v)
+settled-unop a o (Number x) = tt
+settled-unop a o (Reference q) = tt
+
+settled-compared : (c : Condition) (same : Bool) (d : ℕ) → Settled (compared c same d)
+settled-compared Eq same d = settled-pick same (Jump d) Next tt tt
+settled-compared Ne same d = settled-pick same Next (Jump d) tt tt
+settled-compared Lt same d = tt
+settled-compared Ge same d = tt
+settled-compared Gt same d = tt
+settled-compared Le same d = tt
+
+pub settled-branch : (c : Condition) (v u : Value) (d : ℕ) → Settled (branch c v u d)
+settled-branch c (Number x) (Number y) d = settled-pick (inOrder c x y) (Jump d) Next tt tt
+settled-branch c (Number x) (Reference r) d = settled-compared c _ d
+settled-branch c (Reference q) (Number y) d = settled-compared c _ d
+settled-branch c (Reference q) (Reference r) d = settled-compared c _ d

@@ -1,0 +1,30 @@
+-- `local::branch_zero` meets its contract. Assumes nothing.
+use mathlib.Core.Path.{sym}
+use Rattle.machine.specs.State.{null}
+use Rattle.local.proofs.Settled.{settled-branch}
+use Rattle.local.proofs.branch_zero.Statement.{statement}
+use Rattle.local.proofs.branch_zero.Tie as tie
+
+register-requires : tie.Need-register-requires
+register-requires c κs = tt
+
+condition-of-requires : tie.Need-condition-of-requires
+condition-of-requires c κs = tt
+
+branch-requires : tie.Need-branch-requires
+branch-requires c κs = tt
+
+settle-requires : tie.Need-settle-requires
+settle-requires c κs = tt
+
+same-length : tie.Need-same-length
+same-length c = c .before .before .settle .kept .0
+
+returns : tie.Need-returns
+returns c =
+    λ p ob st s f sees.
+    rw (sym (sees .first), sym (c .before .before .before .before .before .before .register .ensures), sym (c .before .before .before .before .before .condition-of .ensures), sym (c .before .before .before .before .branch .ensures))
+    (c .before .before .settle .ensures p ob st (rw (c .before .before .before .before .branch .ensures) (settled-branch (c .before .before .before .before .before .condition-of .result) (c .before .before .before .before .before .before .register .result) null (c .before .before .before .before .before .before .before .before .before .args .d))))
+
+pub branch-zero-spec : {M : Type 1} → statement M
+branch-zero-spec = tie.close (tie.spec register-requires condition-of-requires branch-requires settle-requires same-length returns)
