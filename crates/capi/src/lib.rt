@@ -1,19 +1,8 @@
 // What programs in other languages link: functions on numbers and slices of numbers. docs/FORMATS.md says what each word means.
-use bounded::Outcome;
-use bounded::Pending;
-use machine::Fault;
-use turn::Halt;
 ghost use mathlib.Core.Path.{_≡_};
-ghost use mathlib.Core.List.{_∷_};
-ghost use Prim.Native.Nat.{ℕ, _+_};
-ghost use lib.Dec.{leb};
-ghost use lib.ListN.{length, set};
-ghost use Rattle.instruction.specs.Word.{pick};
 ghost use Rattle.reader.specs.Read.{readProgram, readingNumber};
-ghost use Rattle.machine.specs.State.{faultNumber};
-ghost use Rattle.turn.specs.Stop.{haltNumber};
-ghost use Rattle.bounded.specs.Step.{stepping, steppingNumber, steppingValues, framesAfter, objectsAfter, staticsAfter, numberOf, valuesOf, pendingValues};
-ghost use Rattle.capi.specs.Words.{pendingWord, answered};
+ghost use Rattle.bounded.specs.Step.{stepping, steppingNumber, steppingValues, framesAfter, objectsAfter, staticsAfter};
+ghost use Rattle.answer.specs.Words.{answered};
 
 // The number of a program text: 0 where it is read, else its refusal's.
 #[no_mangle]
@@ -23,81 +12,6 @@ pub extern "C" fn hudzmoke_read(text: &[u8]) -> u64
     let mut t = [0u64; 768];
     let answer = reader::read(text, &mut t);
     reader::number_of(answer) as u64
-}
-
-fn fault_number(f: Fault) -> u8
-    ensures value { λ r. ⌜ r ≡ faultNumber f ⌝ }
-{
-    match f {
-        Fault::NullAsObject => 1,
-        Fault::NumberAsObject => 2,
-        Fault::ObjectAsNumber => 3,
-        Fault::DivisionByZero => 4,
-        Fault::FieldNotHad => 5,
-        Fault::NoMethod => 6,
-        Fault::NotThrowable => 7,
-        Fault::FailedCast => 8,
-    }
-}
-
-fn halt_number(h: Halt) -> u64
-    ensures value { λ r. ⌜ r ≡ haltNumber h ⌝ }
-{
-    match h {
-        Halt::Done => 32,
-        Halt::Uncaught => 33,
-        Halt::Faulted(f) => 40 + fault_number(f) as u64,
-        Halt::FullStore => 20,
-        Halt::FullStack => 21,
-        Halt::StepsMade => 22,
-        Halt::Outside => 24,
-    }
-}
-
-fn pending_word(p: Pending) -> u64
-    ensures value { λ r. ⌜ ((a b c : ℕ) → r ≡ pendingWord (a ∷ b ∷ c ∷ pendingValues p)) ⌝ }
-{
-    match p {
-        Pending::Nothing => 0,
-        Pending::Object(o) => o as u64 + 1,
-    }
-}
-
-// Writes five words, where so many are lent.
-fn put(answer: &mut [u64], number: u64, first: u64, pending: u64, frames: u64, objects: u64) -> u64
-    ensures number { λ r. ⌜ r ≡ number ⌝ }
-    ensures memory { λ r. ⌜ now (answer .exit) ≡ pick (leb 5 (length (now (answer .entry)))) (set (set (set (set (set (now (answer .entry)) 0 number) 1 first) 2 pending) 3 frames) 4 objects) (now (answer .entry)) ⌝ }
-{
-    if answer.len() < 5 {
-        return number;
-    }
-    memory::put_word(&mut *answer, 0, number);
-    memory::put_word(&mut *answer, 1, first);
-    memory::put_word(&mut *answer, 2, pending);
-    memory::put_word(&mut *answer, 3, frames);
-    memory::put_word(answer, 4, objects);
-    number
-}
-
-fn put_outcome(answer: &mut [u64], o: Outcome) -> u64
-    ensures number { λ r. ⌜ r ≡ numberOf o ⌝ }
-    ensures memory { λ r. ⌜ now (answer .exit) ≡ answered (numberOf o) (valuesOf o) (now (answer .entry)) ⌝ }
-{
-    match o {
-        Outcome::Refused { number, line } => put(answer, number as u64, line as u64, 0, 0, 0),
-        Outcome::Short => put(answer, 23, 0, 0, 0, 0),
-        Outcome::Ran {
-            halt,
-            steps,
-            frames,
-            objects,
-            pending,
-        } => {
-            let number = halt_number(halt);
-            let word = pending_word(pending);
-            put(answer, number, steps, word, frames as u64, objects as u64)
-        }
-    }
 }
 
 // Runs a program text for at most n steps in lent memory: the number of what became of it. Words 0 to 4 of the answer are that
@@ -116,5 +30,5 @@ pub extern "C" fn hudzmoke_step(
     ensures memory { λ r. ⌜ (now (frames .exit) ≡ framesAfter (stepping (now (text .entry)) n (now (frames .entry)) (now (objects .entry)) (now (statics .entry))) (now (frames .entry))) × (now (objects .exit) ≡ objectsAfter (stepping (now (text .entry)) n (now (frames .entry)) (now (objects .entry)) (now (statics .entry))) (now (objects .entry))) × (now (statics .exit) ≡ staticsAfter (stepping (now (text .entry)) n (now (frames .entry)) (now (objects .entry)) (now (statics .entry))) (now (statics .entry))) ⌝ }
 {
     let outcome = stepper::step(text, n, frames, objects, statics);
-    put_outcome(answer, outcome)
+    answer::put_outcome(answer, outcome)
 }

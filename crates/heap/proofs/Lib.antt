@@ -1,1 +1,2 @@
+-- What the proofs of instructions on objects and statics use.
 pub mod Objects

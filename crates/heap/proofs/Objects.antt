@@ -1,11 +1,9 @@
 -- Which effects the instructions that look at an object come to, and what was read of memory for them. Assumes nothing.
 use mathlib.Core.Path.{_≡_, ap, _∙_}
-use mathlib.Core.Bool.{Bool, true, false}
 use mathlib.Core.List.{List, [], _∷_}
 use Prim.Native.Nat.{ℕ}
 use denote.Enum.Declared.{tagOf}
 use types.Run.{OneOf, miss}
-use Rattle.instruction.specs.Word.{pick}
 use Rattle.arithmetic.specs.Arithmetic.{isZero}
 use Rattle.program.specs.Program.{Program}
 use Rattle.search.specs.declared.Callee.{Callee}
@@ -19,6 +17,7 @@ use Rattle.machine.specs.declared.Effect.the-variants.{Next, Jump, Write, Load,
 use Rattle.machine.specs.State.{State, null, classOf}
 use Rattle.machine.specs.Decide.{getField, putField, callOf, virtualCall, throw, instanceOf, checkCast}
 use Rattle.machine.proofs.Effect.{the-type}
+use Rattle.machine.proofs.Elements.{pick-cases}
 use Rattle.memory.specs.Writes.{classIn}
 use Rattle.turn.specs.Acts.{Settled, Away}
 
@@ -28,12 +27,6 @@ use Rattle.turn.specs.Acts.{Settled, Away}
 pub decided : (g : ℕ → Value → Effect) (ob : List ℕ) (s : State) (u v : Value) (k : ℕ) (e : Effect)
     → e ≡ g k v → k ≡ classIn ob v → v ≡ u → classIn ob u ≡ classOf s u → e ≡ g (classOf s u) u
 decided g ob s u v k e d l r h = d ∙ ap (λ j. g j v) (l ∙ ap (classIn ob) r ∙ h) ∙ ap (g (classOf s u)) r
-
--- ---- what holds of both effects of a test holds of the one that it picks
-
-both : (P : Effect → Type 0) (b : Bool) (x y : Effect) → P x → P y → P (pick b x y)
-both P true x y l r = l
-both P false x y l r = r
 
 -- ---- those that settle in the frame
 
@@ -49,15 +42,15 @@ Rest ts e = OneOf ts (tagOf the-type e) → Settled e
 
 get-other : (p : Program) (k a x : ℕ) (v : Value) → Rest notLoad (getField p k a x v)
 get-other p k a x (Number z) =
-    both (Rest notLoad) (isZero z) (Fail NullAsObject) (Fail NumberAsObject) (λ t. tt) (λ t. tt)
+    pick-cases (Rest notLoad) (isZero z) (Fail NullAsObject) (Fail NumberAsObject) (λ e t. tt) (λ e t. tt)
 get-other p k a x (Reference o) =
-    both (Rest notLoad) (hasField p k x) (Load a o x) (Fail FieldNotHad) (λ t. absurd (miss notLoad _ tt t)) (λ t. tt)
+    pick-cases (Rest notLoad) (hasField p k x) (Load a o x) (Fail FieldNotHad) (λ e t. absurd (miss notLoad _ tt t)) (λ e t. tt)
 
 put-other : (p : Program) (k x : ℕ) (u v : Value) → Rest notStore (putField p k x u v)
 put-other p k x u (Number z) =
-    both (Rest notStore) (isZero z) (Fail NullAsObject) (Fail NumberAsObject) (λ t. tt) (λ t. tt)
+    pick-cases (Rest notStore) (isZero z) (Fail NullAsObject) (Fail NumberAsObject) (λ e t. tt) (λ e t. tt)
 put-other p k x u (Reference o) =
-    both (Rest notStore) (hasField p k x) (Store o x u) (Fail FieldNotHad) (λ t. absurd (miss notStore _ tt t)) (λ t. tt)
+    pick-cases (Rest notStore) (hasField p k x) (Store o x u) (Fail FieldNotHad) (λ e t. absurd (miss notStore _ tt t)) (λ e t. tt)
 
 pub get-settled : (p : Program) (k a x : ℕ) (v : Value) (e : Effect)
     → e ≡ getField p k a x v → OneOf notLoad (tagOf the-type e) → Settled e
@@ -68,15 +61,15 @@ pub put-settled : (p : Program) (k x : ℕ) (u v : Value) (e : Effect)
 put-settled p k x u v e q = rw q (put-other p k x u v)
 
 test-other : (p : Program) (k a x : ℕ) (v : Value) → Settled (instanceOf p k a x v)
-test-other p k a x (Number z) = both Settled (isZero z) (Write a null) (Fail NumberAsObject) tt tt
+test-other p k a x (Number z) = pick-cases Settled (isZero z) (Write a null) (Fail NumberAsObject) (λ e. tt) (λ e. tt)
 test-other p k a x (Reference o) = tt
 
 pub test-settled : (p : Program) (k a x : ℕ) (v : Value) (e : Effect) → e ≡ instanceOf p k a x v → Settled e
 test-settled p k a x v e q = rw q (test-other p k a x v)
 
 cast-other : (p : Program) (k a x : ℕ) (v : Value) → Settled (checkCast p k a x v)
-cast-other p k a x (Number z) = both Settled (isZero z) (Write a (Number z)) (Fail NumberAsObject) tt tt
-cast-other p k a x (Reference o) = both Settled (below p k x) (Write a (Reference o)) (Fail FailedCast) tt tt
+cast-other p k a x (Number z) = pick-cases Settled (isZero z) (Write a (Number z)) (Fail NumberAsObject) (λ e. tt) (λ e. tt)
+cast-other p k a x (Reference o) = pick-cases Settled (below p k x) (Write a (Reference o)) (Fail FailedCast) (λ e. tt) (λ e. tt)
 
 pub cast-settled : (p : Program) (k a x : ℕ) (v : Value) (e : Effect) → e ≡ checkCast p k a x v → Settled e
 cast-settled p k a x v e q = rw q (cast-other p k a x v)
@@ -88,15 +81,15 @@ called (Found m) c = tt
 called Missing c = tt
 
 call-other : (p : Program) (k n b c : ℕ) (v : Value) → Away (virtualCall p k n b c v)
-call-other p k n b c (Number z) = both Away (isZero z) (Fail NullAsObject) (Fail NumberAsObject) tt tt
+call-other p k n b c (Number z) = pick-cases Away (isZero z) (Fail NullAsObject) (Fail NumberAsObject) (λ e. tt) (λ e. tt)
 call-other p k n b c (Reference o) = called (virtualCallee p k n b) c
 
 pub call-away : (p : Program) (k n b c : ℕ) (v : Value) (e : Effect) → e ≡ virtualCall p k n b c v → Away e
 call-away p k n b c v e q = rw q (call-other p k n b c v)
 
 throw-other : (p : Program) (k : ℕ) (v : Value) → Away (throw p k v)
-throw-other p k (Number z) = both Away (isZero z) (Fail NullAsObject) (Fail NumberAsObject) tt tt
-throw-other p k (Reference o) = both Away (below p k 1) (Raise o) (Fail NotThrowable) tt tt
+throw-other p k (Number z) = pick-cases Away (isZero z) (Fail NullAsObject) (Fail NumberAsObject) (λ e. tt) (λ e. tt)
+throw-other p k (Reference o) = pick-cases Away (below p k 1) (Raise o) (Fail NotThrowable) (λ e. tt) (λ e. tt)
 
 pub throw-away : (p : Program) (k : ℕ) (v : Value) (e : Effect) → e ≡ throw p k v → Away e
 throw-away p k v e q = rw q (throw-other p k v)

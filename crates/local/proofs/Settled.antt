@@ -1,7 +1,6 @@
 -- What arithmetic and branches come to settles inside the frame. Assumes nothing.
-use mathlib.Core.Bool.{Bool, true, false}
+use mathlib.Core.Bool.{Bool}
 use Prim.Native.Nat.{ℕ}
-use Rattle.instruction.specs.Word.{pick}
 use Rattle.instruction.specs.declared.Condition.{Condition}
 use Rattle.instruction.specs.declared.Condition.the-variants.{Eq, Ne, Lt, Ge, Gt, Le}
 use Rattle.instruction.specs.declared.Operation.{Operation}
@@ -13,12 +12,9 @@ use Rattle.machine.specs.declared.Value.{Value}
 use Rattle.machine.specs.declared.Value.the-variants.{Number, Reference}
 use Rattle.machine.specs.declared.Effect.{Effect}
 use Rattle.machine.specs.declared.Effect.the-variants.{Next, Jump}
+use Rattle.machine.proofs.Elements.{pick-cases}
 use Rattle.machine.specs.Decide.{computedInto, binop, unop, compared, branch}
 use Rattle.turn.specs.Acts.{Settled}
-
-settled-pick : (b : Bool) (x y : Effect) → Settled x → Settled y → Settled (pick b x y)
-settled-pick true x y h k = h
-settled-pick false x y h k = k
 
 settled-computed : (a : ℕ) (k : Computed) → Settled (computedInto a k)
 settled-computed a (computed.Number z) = tt
@@ -35,15 +31,15 @@ settled-unop a o (Number x) = tt
 settled-unop a o (Reference q) = tt
 
 settled-compared : (c : Condition) (same : Bool) (d : ℕ) → Settled (compared c same d)
-settled-compared Eq same d = settled-pick same (Jump d) Next tt tt
-settled-compared Ne same d = settled-pick same Next (Jump d) tt tt
+settled-compared Eq same d = pick-cases Settled same (Jump d) Next (λ e. tt) (λ e. tt)
+settled-compared Ne same d = pick-cases Settled same Next (Jump d) (λ e. tt) (λ e. tt)
 settled-compared Lt same d = tt
 settled-compared Ge same d = tt
 settled-compared Gt same d = tt
 settled-compared Le same d = tt
 
 pub settled-branch : (c : Condition) (v u : Value) (d : ℕ) → Settled (branch c v u d)
-settled-branch c (Number x) (Number y) d = settled-pick (inOrder c x y) (Jump d) Next tt tt
+settled-branch c (Number x) (Number y) d = pick-cases Settled (inOrder c x y) (Jump d) Next (λ e. tt) (λ e. tt)
 settled-branch c (Number x) (Reference r) d = settled-compared c _ d
 settled-branch c (Reference q) (Number y) d = settled-compared c _ d
 settled-branch c (Reference q) (Reference r) d = settled-compared c _ d

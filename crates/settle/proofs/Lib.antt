@@ -1,1 +1,2 @@
+-- What the proof of `settle` uses.
 pub mod Next

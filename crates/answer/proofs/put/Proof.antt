@@ -1,10 +1,10 @@
--- `capi::put` meets its contract. Assumes nothing.
+-- `answer::put` meets its contract. Assumes nothing.
 use borrow.Author.Tests.{le-leb, lt-leb}
 use native.Mathlib.Omega.{arith}
 use lib.ListN.{length}
 use mathlib.Core.Path.{refl, _∙_}
-use Rattle.capi.proofs.put.Statement.{statement}
-use Rattle.capi.proofs.put.Tie as tie
+use Rattle.answer.proofs.put.Statement.{statement}
+use Rattle.answer.proofs.put.Tie as tie
 
 returns : tie.Need-returns
 returns c = (refl, rw (lt-leb 5 (length (c .before .before .args .answer .now)) (omega arith)))

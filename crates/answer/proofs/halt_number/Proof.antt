@@ -1,7 +1,7 @@
--- `capi::halt_number` meets its contract. Assumes nothing.
+-- `answer::halt_number` meets its contract. Assumes nothing.
 use borrow.Author.Needs.{needs}
-use Rattle.capi.proofs.halt_number.Statement.{statement}
-use Rattle.capi.proofs.halt_number.Tie as tie
+use Rattle.answer.proofs.halt_number.Statement.{statement}
+use Rattle.answer.proofs.halt_number.Tie as tie
 
 enum-told : tie.Need-enum-told
 enum-told c = search needs

@@ -1,8 +1,8 @@
--- `capi::put_outcome` meets its contract. Assumes nothing.
+-- `answer::put_outcome` meets its contract. Assumes nothing.
 use mathlib.Core.Path.{sym}
 use borrow.Author.Needs.{needs}
-use Rattle.capi.proofs.put_outcome.Statement.{statement}
-use Rattle.capi.proofs.put_outcome.Tie as tie
+use Rattle.answer.proofs.put_outcome.Statement.{statement}
+use Rattle.answer.proofs.put_outcome.Tie as tie
 
 enum-known-o : tie.Need-enum-known-o
 enum-known-o c = search needs

@@ -1,7 +1,7 @@
--- `capi::pending_word` meets its contract. Assumes nothing.
+-- `answer::pending_word` meets its contract. Assumes nothing.
 use borrow.Author.Needs.{needs}
-use Rattle.capi.proofs.pending_word.Statement.{statement}
-use Rattle.capi.proofs.pending_word.Tie as tie
+use Rattle.answer.proofs.pending_word.Statement.{statement}
+use Rattle.answer.proofs.pending_word.Tie as tie
 
 enum-told : tie.Need-enum-told
 enum-told c = search needs
