@@ -1,5 +1,5 @@
 -- Which effects the instructions that look at an object come to, and what was read of memory for them. Assumes nothing.
-use mathlib.Core.Path.{_≡_, ap, _∙_}
+use mathlib.Core.Path.{_≡_, refl, ap, _∙_}
 use mathlib.Core.List.{List, [], _∷_}
 use Prim.Native.Nat.{ℕ}
 use denote.Enum.Declared.{tagOf}
@@ -19,7 +19,11 @@ use Rattle.machine.specs.Decide.{getField, putField, callOf, virtualCall, throw
 use Rattle.machine.proofs.Effect.{the-type}
 use Rattle.machine.proofs.Elements.{pick-cases}
 use Rattle.memory.specs.Writes.{classIn}
-use Rattle.turn.specs.Acts.{Settled, Away}
+use Rattle.turn.specs.declared.Act.{Act}
+use Rattle.turn.specs.declared.Act.the-variants as act
+use Rattle.turn.specs.Lies.{Lent}
+use Rattle.turn.specs.Acts.{Acting, Settled, Away}
+use Rattle.heap.specs.Away.{awayAct}
 
 -- ---- what was read
 
@@ -94,20 +98,35 @@ throw-other p k (Reference o) = pick-cases Away (below p k 1) (Raise o) (Fail No
 pub throw-away : (p : Program) (k : ℕ) (v : Value) (e : Effect) → e ≡ throw p k v → Away e
 throw-away p k v e q = rw q (throw-other p k v)
 
--- no other effect goes away
-abbrev pub notAway : List ℕ
-notAway = 0 ∷ 1 ∷ 2 ∷ 3 ∷ 4 ∷ 5 ∷ 6 ∷ 7 ∷ 9 ∷ []
+-- the effects of the last arm of `away`
+abbrev others : List ℕ
+others = 0 ∷ 1 ∷ 2 ∷ 3 ∷ 4 ∷ 5 ∷ 6 ∷ 7 ∷ 9 ∷ []
 
-pub stays : (e : Effect) → OneOf notAway (tagOf the-type e) → Away e → ⊥
-stays Next t w = w
-stays (Jump to) t w = w
-stays (Write a v) t w = w
-stays (Load a o x) t w = w
-stays (LoadStatic a x) t w = w
-stays (Make a k) t w = w
-stays (Store o x v) t w = w
-stays (StoreStatic x v) t w = w
-stays (Call m c) t w = miss notAway _ tt t
-stays (Exit v) t w = w
-stays (Raise o) t w = miss notAway _ tt t
-stays (Fail e) t w = miss notAway _ tt t
+pub as-none : (e : Effect) → OneOf others (tagOf the-type e) → act.Go 0 ≡ awayAct e
+as-none Next t = refl
+as-none (Jump to) t = refl
+as-none (Write a v) t = refl
+as-none (Load a o x) t = refl
+as-none (LoadStatic a x) t = refl
+as-none (Make a k) t = refl
+as-none (Store o x v) t = refl
+as-none (StoreStatic x v) t = refl
+as-none (Call m c) t = absurd (miss others _ tt t)
+as-none (Exit v) t = refl
+as-none (Raise o) t = absurd (miss others _ tt t)
+as-none (Fail e) t = absurd (miss others _ tt t)
+
+-- from the promise of `away`
+pub away-acts : (p : Program) (e : Effect) (top pc : ℕ) (m : Lent) (r : Act) → r ≡ awayAct e → Away e → Acting p e top pc m r m
+away-acts p Next top pc m r h k = absurd k
+away-acts p (Jump to) top pc m r h k = absurd k
+away-acts p (Write a v) top pc m r h k = absurd k
+away-acts p (Load a o x) top pc m r h k = absurd k
+away-acts p (LoadStatic a x) top pc m r h k = absurd k
+away-acts p (Make a c) top pc m r h k = absurd k
+away-acts p (Store o x v) top pc m r h k = absurd k
+away-acts p (StoreStatic x v) top pc m r h k = absurd k
+away-acts p (Call n c) top pc m r h k = rw h (refl, refl)
+away-acts p (Exit v) top pc m r h k = absurd k
+away-acts p (Raise o) top pc m r h k = rw h (refl, refl)
+away-acts p (Fail e) top pc m r h k = rw h (refl, refl)

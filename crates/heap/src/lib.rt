@@ -1,13 +1,15 @@
 // Instructions that look at an object or a static.
 use machine::Effect;
 use turn::Act;
+ghost use mathlib.Core.Path.{_≡_};
 ghost use mathlib.Core.List.{List};
 ghost use Prim.Native.Nat.{ℕ};
 ghost use Rattle.instruction.specs.declared.Instruction.the-variants.{Iget, Iput, Sget, Sput, InvokeVirtual, Throw, InstanceOf, CheckCast};
 ghost use Rattle.program.specs.Program.{Program};
 ghost use Rattle.program.specs.Tables.{programIn};
-ghost use Rattle.turn.specs.Lies.{Lent, lent};
-ghost use Rattle.turn.specs.Acts.{Acting, Away, Performed};
+ghost use Rattle.turn.specs.Lies.{lent};
+ghost use Rattle.turn.specs.Acts.{Performed};
+ghost use Rattle.heap.specs.Away.{awayAct};
 
 // iget: register a takes field c of the object in register b.
 pub fn get_field(
@@ -78,9 +80,9 @@ pub fn put_static(frames: &mut [u64], statics: &mut [u64], top: u8, pc: u8, a: u
     settle::go(frames, top, pc as usize + 1)
 }
 
-// An effect that is a call, a throw or a fault. Callers pass no other.
+// An effect that is a call, a throw or a fault. Callers pass no other; for one it is address 0.
 fn away(e: Effect) -> Act
-    ensures act { λ r. ⌜ ((p : Program) → (top : ℕ) → (pc : ℕ) → (m : Lent) → Away e → Acting p e top pc m r m) ⌝ }
+    ensures act { λ r. ⌜ r ≡ awayAct e ⌝ }
 {
     match e {
         Effect::Call { method, first } => Act::Call { method, first },

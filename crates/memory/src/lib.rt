@@ -2,7 +2,7 @@
 // takes any words and any numbers; past the end a read is 0 and a write does nothing.
 use machine::Value;
 ghost use mathlib.Core.Path.{_≡_};
-ghost use Prim.Native.Nat.{suc, _+_, min};
+ghost use Prim.Native.Nat.{suc, _+_};
 ghost use lib.ListN.{getD, set, length};
 ghost use Rattle.memory.specs.Memory.{valueWord, valueIn};
 ghost use Rattle.memory.specs.Writes.{framePlace, objectPlace, classIn, cleared, copied};
@@ -114,20 +114,13 @@ fn zero(ws: &mut [u64])
     }
 }
 
-// The lesser of two numbers.
-fn least(a: usize, b: usize) -> usize
-    ensures value { λ r. ⌜ r ≡ min a b ⌝ }
-{
-    if a < b { a } else { b }
-}
-
 // Makes `count` words zero, from a place on.
 pub fn clear(ws: &mut [u64], from: u32, count: u32)
     ensures memory { λ _. ⌜ now (ws .exit) ≡ cleared count (now (ws .entry)) from ⌝ }
 {
     let n = ws.len();
-    let end = least(from as usize + count as usize, n);
-    let start = least(from as usize, end);
+    let end = program::at_most(from as usize + count as usize, n);
+    let start = program::at_most(from as usize, end);
     zero(&mut ws[start..end]);
 }
 

@@ -22,7 +22,7 @@ pub fn word(t: &[u64; 768], i: usize) -> usize
 }
 
 // The lesser of two counts.
-fn at_most(n: usize, limit: usize) -> usize
+pub fn at_most(n: usize, limit: usize) -> usize
     ensures value { λ r. ⌜ r ≡ min n limit ⌝ }
 {
     if n < limit { n } else { limit }

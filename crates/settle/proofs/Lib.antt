@@ -1,2 +1,2 @@
--- What the proof of `settle` uses.
-pub mod Next
+-- What the proofs of `settle` and of its callers use.
+pub mod Settles

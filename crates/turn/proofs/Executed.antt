@@ -8,7 +8,6 @@ use lib.ListN.{length}
 use borrow.Author.Tests.{lt-ltb}
 use Rattle.program.specs.Program.{Program, codeLength, instructionAt, handlerTarget}
 use Rattle.reader.specs.Formed.{Formed}
-use Rattle.search.specs.declared.Handling.{Handling}
 use Rattle.search.specs.declared.Handling.the-variants as handling
 use Rattle.search.specs.Search.{handlerFor}
 use Rattle.values.specs.Values.{limitsOf}

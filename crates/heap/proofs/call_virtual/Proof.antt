@@ -5,7 +5,7 @@ use Rattle.program.specs.Tables.{programIn}
 use Rattle.machine.specs.State.{register}
 use Rattle.machine.specs.Decide.{virtualCall}
 use Rattle.turn.specs.Lies.{lent}
-use Rattle.heap.proofs.Objects.{decided, call-away}
+use Rattle.heap.proofs.Objects.{decided, call-away, away-acts}
 use Rattle.heap.proofs.call_virtual.Statement.{statement}
 use Rattle.heap.proofs.call_virtual.Tie as tie
 
@@ -30,7 +30,7 @@ returns c =
     let same = decided (λ k v. virtualCall p k (a .a) (a .b) (a .c) v) (now (a .objects)) s (register f (a .c)) _ _ e
     (c .before .virtual-call .ensures) (c .before .before .class-of .ensures) (c .before .before .before .register .ensures ∙ sees .first) (sees .class) in
     rw (sym same)
-    (c .away .ensures p (a .top) pc (lent (now (a .frames)) (now (a .objects)) st)
+    (away-acts p e (a .top) pc (lent (now (a .frames)) (now (a .objects)) st) (c .away .result) (c .away .ensures)
     (call-away p (c .before .before .class-of .result) (a .a) (a .b) (a .c) (c .before .before .before .register .result) e (c .before .virtual-call .ensures)))
 
 pub call-virtual-spec : {M : Type 1} → statement M

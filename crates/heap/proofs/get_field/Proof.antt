@@ -5,6 +5,7 @@ use Rattle.program.specs.Tables.{programIn}
 use Rattle.machine.specs.State.{register}
 use Rattle.machine.specs.Decide.{getField}
 use Rattle.turn.proofs.Acts.{load-acts}
+use Rattle.settle.proofs.Settles.{settled-acts}
 use Rattle.heap.proofs.Objects.{decided, get-settled}
 use Rattle.heap.proofs.get_field.Statement.{statement}
 use Rattle.heap.proofs.get_field.Tie as tie
@@ -36,7 +37,7 @@ returns c =
     let same = decided (λ k v. getField p k (a .a) (a .c) v) (now (a .objects)) s (register f (a .b)) _ _ e
     (c .before .before .before .before .before .get-field .ensures) (c .before .before .before .before .before .before .class-of .ensures) (c .before .before .before .before .before .before .before .register .ensures ∙ sees .first) (sees .class) in
     rw (sym same)
-    (c .before .before .settle .ensures p (now (a .objects)) st
+    (settled-acts p e (a .top) (a .pc) (now (a .frames)) (now (a .objects)) st (c .before .before .settle .last .0) (c .before .before .settle .result) (c .before .before .settle .ensures)
     (get-settled p (c .before .before .before .before .before .before .class-of .result) (a .a) (a .c) (c .before .before .before .before .before .before .before .register .result) e (c .before .before .before .before .before .get-field .ensures) (c .before .before .before .before .match .keys2)))
 
 cell-requires : tie.Need-cell-requires

@@ -5,6 +5,7 @@ use Rattle.program.specs.Tables.{programIn}
 use Rattle.machine.specs.State.{register}
 use Rattle.machine.specs.Decide.{putField}
 use Rattle.turn.proofs.Acts.{store-acts}
+use Rattle.settle.proofs.Settles.{settled-acts}
 use Rattle.heap.proofs.Objects.{decided, put-settled}
 use native.Mathlib.Omega.{arith}
 use Rattle.heap.proofs.put_field.Statement.{statement}
@@ -44,7 +45,7 @@ returns c =
     let same = decided (λ k v. putField p k (a .c) u v) (now (a .objects)) s (register f (a .b)) _ _ e
     (c .before .before .before .before .before .put-field .ensures) (c .before .before .before .before .before .before .before .before .class-of .ensures) (c .before .before .before .before .before .before .before .before .before .before .register .ensures ∙ sees .first) (sees .class) in
     rw (sym (sees .second), sym (c .before .before .before .before .before .before .register2 .ensures), sym same)
-    (c .before .before .settle .ensures p (now (a .objects)) st
+    (settled-acts p e (a .top) (a .pc) (now (a .frames)) (now (a .objects)) st (c .before .before .settle .last .0) (c .before .before .settle .result) (c .before .before .settle .ensures)
     (put-settled p (c .before .before .before .before .before .before .before .before .class-of .result) (a .c) u (c .before .before .before .before .before .before .before .before .before .before .register .result) e (c .before .before .before .before .before .put-field .ensures) (c .before .before .before .before .match .keys2)))
 
 put-cell-requires : tie.Need-put-cell-requires

@@ -5,7 +5,7 @@ use Rattle.program.specs.Tables.{programIn}
 use Rattle.machine.specs.State.{register}
 use Rattle.machine.specs.Decide.{throw}
 use Rattle.turn.specs.Lies.{lent}
-use Rattle.heap.proofs.Objects.{decided, throw-away}
+use Rattle.heap.proofs.Objects.{decided, throw-away, away-acts}
 use Rattle.heap.proofs.raise.Statement.{statement}
 use Rattle.heap.proofs.raise.Tie as tie
 
@@ -30,7 +30,7 @@ returns c =
     let same = decided (throw p) (now (a .objects)) s (register f (a .a)) _ _ e
     (c .before .throw-value .ensures) (c .before .before .class-of .ensures) (c .before .before .before .register .ensures ∙ sees .first) (sees .class) in
     rw (sym same)
-    (c .away .ensures p (a .top) pc (lent (now (a .frames)) (now (a .objects)) st)
+    (away-acts p e (a .top) pc (lent (now (a .frames)) (now (a .objects)) st) (c .away .result) (c .away .ensures)
     (throw-away p (c .before .before .class-of .result) (c .before .before .before .register .result) e (c .before .throw-value .ensures)))
 
 pub raise-spec : {M : Type 1} → statement M

@@ -1,6 +1,7 @@
 -- `local::branch_zero` meets its contract. Assumes nothing.
 use mathlib.Core.Path.{sym}
 use Rattle.machine.specs.State.{null}
+use Rattle.settle.proofs.Settles.{settled-acts}
 use Rattle.local.proofs.Settled.{settled-branch}
 use Rattle.local.proofs.branch_zero.Statement.{statement}
 use Rattle.local.proofs.branch_zero.Tie as tie
@@ -24,7 +25,8 @@ returns : tie.Need-returns
 returns c =
     λ p ob st s f sees.
     rw (sym (sees .first), sym (c .before .before .before .before .before .before .register .ensures), sym (c .before .before .before .before .before .condition-of .ensures), sym (c .before .before .before .before .branch .ensures))
-    (c .before .before .settle .ensures p ob st (rw (c .before .before .before .before .branch .ensures) (settled-branch (c .before .before .before .before .before .condition-of .result) (c .before .before .before .before .before .before .register .result) null (c .before .before .before .before .before .before .before .before .before .args .d))))
+    (settled-acts p (c .before .before .before .before .branch .result) (c .before .before .before .before .before .before .before .before .before .args .top) (c .before .before .before .before .before .before .before .before .before .args .pc) (c .before .before .before .before .before .before .before .before .before .args .frames .now) ob st (c .before .before .settle .last .0) (c .before .before .settle .result) (c .before .before .settle .ensures)
+    (rw (c .before .before .before .before .branch .ensures) (settled-branch (c .before .before .before .before .before .condition-of .result) (c .before .before .before .before .before .before .register .result) null (c .before .before .before .before .before .before .before .before .before .args .d))))
 
 pub branch-zero-spec : {M : Type 1} → statement M
 branch-zero-spec = tie.close (tie.spec register-requires condition-of-requires branch-requires settle-requires same-length returns)

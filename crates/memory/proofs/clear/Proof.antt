@@ -21,14 +21,14 @@ zeros ws part from count start end e s z =
     ∙ cleared-part ws part start end (omega arith) (omega arith) (l ∙ mid-len start end ws (omega arith)) from count e s
     (λ i h. ap (λ (p : List ℕ). getD p i 0) z ∙ cleared-in mid 0 (length mid) i (omega arith) (omega arith))
 
-add-least : tie.Need-add-least
-add-least c = omega arith
+add-at-most : tie.Need-add-at-most
+add-at-most c = omega arith
 
-least-requires : tie.Need-least-requires
-least-requires c κs = tt
+at-most-requires : tie.Need-at-most-requires
+at-most-requires c κs = tt
 
-least-requires-2 : tie.Need-least-requires-2
-least-requires-2 c κs = tt
+at-most-requires-2 : tie.Need-at-most-requires-2
+at-most-requires-2 c κs = tt
 
 mul-zero : tie.Need-mul-zero
 mul-zero c = omega arith
@@ -52,19 +52,19 @@ returns : tie.Need-returns
 returns c =
     let args = c .before .before .before .before .before .before .before .args in
     let ws = args .ws .now in
-    let end = c .before .before .before .before .before .least .result in
-    let start = c .before .before .before .before .least2 .result in
-    let end-is : end ≡ min (args .from + args .count) (length ws) = c .before .before .before .before .before .least .ensures in
-    let start-is : start ≡ min (args .from) end = c .before .before .before .before .least2 .ensures in
+    let end = c .before .before .before .before .before .at-most .result in
+    let start = c .before .before .before .before .at-most2 .result in
+    let end-is : end ≡ min (args .from + args .count) (length ws) = c .before .before .before .before .before .at-most .ensures in
+    let start-is : start ≡ min (args .from) end = c .before .before .before .before .at-most2 .ensures in
     zeros ws (c .before .before .zero .last .0) (args .from) (args .count) start end end-is start-is (c .before .before .zero .ensures)
 
 pub clear-spec : {M : Type 1} → statement M
 clear-spec =
     tie.close
     (tie.spec
-    add-least
-    least-requires
-    least-requires-2
+    add-at-most
+    at-most-requires
+    at-most-requires-2
     mul-zero
     sub-zero
     part-zero-start
