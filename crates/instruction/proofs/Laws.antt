@@ -1,14 +1,11 @@
 -- The two readings of a test agree: it passes exactly if what it says holds. Assumes nothing.
 use mathlib.Core.Path.{_≡_, refl}
-use mathlib.Core.Bool.{Bool, true, false, _&&_}
+use mathlib.Core.Bool.{true, false}
 use Prim.Native.Nat.{ℕ}
 use native.Mathlib.Omega.{arith}
 use borrow.Author.Tests.{ltb-true, leb-true, eqb-true, not-true, lt-ltb, le-leb, eq-eqb}
+use Rattle.instruction.proofs.Flags.{both-true}
 use Rattle.instruction.specs.Test.{Test, always, under, most, same, _&_, given, never, passes, Holds}
-
-both-true : (a b : Bool) → a && b ≡ true → (a ≡ true) × (b ≡ true)
-both-true true b e = (refl, e)
-both-true false b e = let z : _≡_ {A = ℕ} 0 1 = cc in absurd (omega arith)
 
 pub holds : (t : Test) → passes t ≡ true → Holds t
 holds always e = tt

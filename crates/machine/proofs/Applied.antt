@@ -13,7 +13,8 @@ use Rattle.machine.specs.declared.Effect.{Effect}
 use Rattle.machine.specs.declared.Effect.the-variants.{Next, Jump, Write, Load, LoadStatic, Make, Store, StoreStatic, Call, Exit, Raise, Fail}
 use Rattle.machine.specs.State.{Frame, Object, Status, running, raised, done, uncaught, failed, State, null, noObject, objectAt, cell, static}
 use Rattle.machine.specs.Run.{moved, wrote, fresh, stored, returned, apply, dropped, unwound}
-use Rattle.machine.specs.Shaped.{Known, KnownStatus, Every, ShapedFrame, ShapedObject, Shaped, Fitting}
+use Rattle.program.specs.Lists.{Every}
+use Rattle.machine.specs.Shaped.{Known, KnownStatus, ShapedFrame, ShapedObject, Shaped, Fitting}
 use Rattle.machine.proofs.Elements.{set-at, append-at}
 use Rattle.machine.proofs.Parts.{known-more, frames-more, object-more, moved-shaped, resumed-shaped, wrote-shaped, entered-shaped, fresh-shaped, stored-shaped}
 use Rattle.machine.proofs.Fitting.{top-shaped}

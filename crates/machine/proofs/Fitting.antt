@@ -33,7 +33,8 @@ use Rattle.machine.specs.declared.Value.the-variants.{Number, Reference}
 use Rattle.machine.specs.declared.Effect.{Effect}
 use Rattle.machine.specs.State.{Frame, State, null, register, classOf}
 use Rattle.machine.specs.Decide.{notObject, computedInto, binop, unop, compared, branch, getField, putField, callOf, virtualCall, throw, instanceOf, checkCast, decide}
-use Rattle.machine.specs.Shaped.{Known, Every, ShapedFrame, Shaped, Fitting}
+use Rattle.program.specs.Lists.{Every}
+use Rattle.machine.specs.Shaped.{Known, ShapedFrame, Shaped, Fitting}
 use Rattle.machine.proofs.Elements.{pick-cases}
 use Rattle.machine.proofs.Found.{callee-fits}
 

@@ -9,6 +9,7 @@ use lib.Dec.{eqb, ltb}
 use borrow.Author.Tests.{eqb-true}
 use Rattle.text.proofs.Cases.{never}
 use Rattle.instruction.specs.Word.{pick}
+use Rattle.instruction.proofs.Flags.{both-true}
 use Rattle.program.specs.Lists.{oneMore, first}
 use Rattle.program.specs.Program.{Program, superclass, methodCount, methodClass, methodName, methodKind, arguments}
 use Rattle.search.specs.declared.Callee.{Callee}
@@ -31,11 +32,6 @@ first-some zero test i e = never (cc)
 first-some (suc n) test i e =
     first-or-later n test (test zero) (first n (λ k. test (suc k))) refl (first-some n (λ k. test (suc k))) i e
 
--- the second of two flags that are both true
-second : (a b : Bool) → a && b ≡ true → b ≡ true
-second true b e = e
-second false b e = never (cc)
-
 module _ (p : Program) (name count : ℕ) where
   answers-count : (c m : ℕ) → answers p c name count m ≡ true → arguments p m ≡ count
   unfolding answers
@@ -44,8 +40,9 @@ module _ (p : Program) (name count : ℕ) where
       let virtual = eqb (methodKind p m) 0 && counted in
       let called = eqb (methodName p m) name && virtual in
       eqb-true (arguments p m) count
-      (second (eqb (methodKind p m) 0) counted
-      (second (eqb (methodName p m) name) virtual (second (eqb (methodClass p m) c) called e)))
+      (both-true (eqb (methodKind p m) 0) counted
+      (both-true (eqb (methodName p m) name) virtual (both-true (eqb (methodClass p m) c) called e .1) .1)
+      .1)
 
   -- method m exists and takes so many arguments
   abbrev Fits : ℕ → Type 0

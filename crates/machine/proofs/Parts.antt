@@ -10,7 +10,8 @@ use Rattle.machine.specs.declared.Value.{Value}
 use Rattle.machine.specs.declared.Value.the-variants.{Number, Reference}
 use Rattle.machine.specs.State.{Frame, Object, null, register}
 use Rattle.machine.specs.Run.{moved, wrote, resumed, entered, fresh, stored}
-use Rattle.machine.specs.Shaped.{Known, Every, ShapedFrame, ShapedObject}
+use Rattle.program.specs.Lists.{Every}
+use Rattle.machine.specs.Shaped.{Known, ShapedFrame, ShapedObject}
 use Rattle.machine.proofs.Elements.{pick-cases, set-at, tab-at, replicate-at}
 
 -- with more objects

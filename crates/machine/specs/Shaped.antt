@@ -1,9 +1,9 @@
 -- What the laws of the run say of its states, and of an effect: sizes, and that every object named has been made. Nothing here
 -- needs to be believed to read the run. Definitions only.
 use mathlib.Core.Path.{_≡_}
-use mathlib.Core.List.{List, [], _∷_}
 use Prim.Native.Nat.{ℕ, _+_, _<_, _≤_}
 use lib.ListN.{length, getD}
+use Rattle.program.specs.Lists.{Every}
 use Rattle.program.specs.Program.{Program, classCount, fieldCount, methodCount, registers, arguments, codeLength}
 use Rattle.machine.specs.declared.Value.{Value}
 use Rattle.machine.specs.declared.Value.the-variants.{Number, Reference}
@@ -23,10 +23,6 @@ KnownStatus n (raised o) = o < n
 KnownStatus n done = Unit {0}
 KnownStatus n (uncaught o) = o < n
 KnownStatus n (failed e) = Unit {0}
-
-abbrev pub Every : {A : Type 0} → (A → Type 0) → List A → Type 0
-Every P [] = Unit {0}
-Every P (x ∷ xs) = P x × Every P xs
 
 -- a frame has its method's r registers
 pub record ShapedFrame (p : Program) (n : ℕ) (f : Frame) : Type 0 where

@@ -12,14 +12,15 @@ use borrow.Author.Tests.{eq-eqb}
 use Rattle.instruction.specs.Test.{Test, passes, Holds}
 use Rattle.instruction.specs.Word.{pick}
 use Rattle.instruction.proofs.Laws.{holds}
-use Rattle.program.specs.Lists.{oneMore, first}
+use Rattle.program.proofs.Every.{every-append, every-parts, every-tab, tab-each, every-joined, joined-each}
+use Rattle.program.specs.Lists.{Every, oneMore, first, joined}
 use Rattle.program.specs.Program.{Program, methodCount, methodClass, methodName}
 use Rattle.frame.specs.declared.Kind.{Kind}
 use Rattle.frame.specs.declared.Kind.the-variants.{Class, Field, Static, Header, Handler, Code, Unknown}
 use Rattle.values.specs.Values.{instructionTest, lastTest, alike, some?, repeated, valueMark, instructionMark}
-use Rattle.marks.specs.Marks.{linesIn, markAt, marksIn, methodMarks, joined, marks, firstMark}
+use Rattle.marks.specs.Marks.{linesIn, markAt, marksIn, methodMarks, marks, firstMark}
 use Rattle.marks.specs.Valued.{Valued}
-use Rattle.marks.proofs.Every.{Every, Zero, every-join, every-parts, every-tab, tab-each, every-joined, joined-each, first-mark, no-mark}
+use Rattle.marks.proofs.Zero.{Zero, first-mark, no-mark}
 
 true-false : true ≡ false → ⊥
 true-false e = let z : _≡_ {A = ℕ} 0 1 = cc in omega arith
@@ -101,18 +102,18 @@ unfolding marks methodMarks marksIn
 mark-numbers p =
     let j = joined (methodCount p) (methodMarks p) in
     first-mark Number (marks p) 1 (inl refl)
-    (every-join Number (marksIn p Class 0) (marksIn p Field 0 ++ (marksIn p Static 0 ++ j)) (kind Class 0)
-    (every-join Number (marksIn p Field 0) (marksIn p Static 0 ++ j) (kind Field 0)
-    (every-join Number (marksIn p Static 0) j (kind Static 0)
-    (every-joined Number (methodCount p) (methodMarks p) method))))
+    (every-append Number (marksIn p Class 0) (marksIn p Field 0 ++ (marksIn p Static 0 ++ j)) (kind Class 0)
+    (every-append Number (marksIn p Field 0) (marksIn p Static 0 ++ j) (kind Field 0)
+    (every-append Number (marksIn p Static 0) j (kind Static 0)
+    (every-joined Number (methodCount p) (methodMarks p) (λ m _. method m)))))
   where
     kind : (k : Kind) (m : ℕ) → Every Number (marksIn p k m)
     kind k m = every-tab Number (linesIn p k m) (markAt p k m) (mark-number p k m)
 
     method : (m : ℕ) → Every Number (methodMarks p m)
     method m =
-        every-join Number (marksIn p Header m) (marksIn p Code m ++ marksIn p Handler m) (kind Header m)
-        (every-join Number (marksIn p Code m) (marksIn p Handler m) (kind Code m) (kind Handler m))
+        every-append Number (marksIn p Header m) (marksIn p Code m ++ marksIn p Handler m) (kind Header m)
+        (every-append Number (marksIn p Code m) (marksIn p Handler m) (kind Code m) (kind Handler m))
 
 -- a search that finds none: its first number does not pass, and the search from the next finds none
 none-later : (t : Bool) (r : Option ℕ) → some? (pick t (some zero) (oneMore r)) ≡ false → (t ≡ false) × (some? r ≡ false)

@@ -9,10 +9,10 @@ use native.Mathlib.Omega.{arith}
 use borrow.Author.Tests.{eqb-false, eq-eqb, ne-eqb}
 use lib.Dec.{eqb}
 use lib.ListN.{length}
-use Rattle.program.specs.Lists.{tab}
+use Rattle.program.specs.Lists.{tab, joined}
 use Rattle.program.proofs.Lists.{tab-cong, tab-from}
 use Rattle.marks.specs.declared.Stop.{Stop}
-use Rattle.marks.specs.Marks.{joined, stop, firstMark}
+use Rattle.marks.specs.Marks.{stop, firstMark}
 
 -- ---- one mark
 

@@ -1,4 +1,4 @@
 pub mod Bounds
 pub mod Clear
-pub mod Every
+pub mod Zero
 pub mod First

@@ -1,9 +1,9 @@
 -- A mark for every line of a program's text: refusal 5 or 6, or 0; and the first marked line. Definitions only.
 use mathlib.Core.List.{List, [], _∷_, _++_}
-use Prim.Native.Nat.{ℕ, zero, suc, _+_}
+use Prim.Native.Nat.{ℕ, _+_}
 use lib.Dec.{eqb}
 use Rattle.instruction.specs.Word.{pick}
-use Rattle.program.specs.Lists.{tab}
+use Rattle.program.specs.Lists.{tab, joined}
 use Rattle.program.specs.Program.{Program, classCount, fieldCount, methodCount, codeLength, handlerCount}
 use Rattle.frame.specs.declared.Kind.{Kind}
 use Rattle.frame.specs.declared.Kind.the-variants.{Class, Field, Static, Header, Handler, Code, Unknown}
@@ -37,11 +37,6 @@ marksIn p k m = tab (linesIn p k m) (markAt p k m)
 -- the marks of a method's lines
 unfoldable pub methodMarks : Program → ℕ → List ℕ
 methodMarks p m = marksIn p Header m ++ (marksIn p Code m ++ marksIn p Handler m)
-
--- f 0 ++ f 1 ++ .. ++ f (n - 1)
-abbrev pub joined : ℕ → (ℕ → List ℕ) → List ℕ
-joined zero f = []
-joined (suc n) f = f zero ++ joined n (λ k. f (suc k))
 
 -- the marks of all lines of a program's text, in its order
 unfoldable pub marks : Program → List ℕ

@@ -4,7 +4,8 @@ ghost use mathlib.Core.Path.{_≡_};
 ghost use Prim.Native.Nat.{ℕ, _+_, _≤_};
 ghost use Rattle.program.specs.Program.{methodCount};
 ghost use Rattle.program.specs.Tables.{programIn};
-ghost use Rattle.marks.specs.Marks.{marks, marksIn, methodMarks, markAt, linesIn, joined, firstMark};
+ghost use Rattle.program.specs.Lists.{joined};
+ghost use Rattle.marks.specs.Marks.{marks, marksIn, methodMarks, markAt, linesIn, firstMark};
 
 // Where a walk stopped: a refusal's number and line, or 0 and the line after the last.
 pub struct Stop {

@@ -1,5 +1,6 @@
 pub mod Grow
 pub mod Lists
+pub mod Every
 pub mod Read
 pub mod Tables
 pub mod Words

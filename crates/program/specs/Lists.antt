@@ -1,6 +1,6 @@
--- Lists by index, and the first number that passes a test. Definitions only.
+-- Lists by index, lists put together, what holds of every element, and the first number that passes a test. Definitions only.
 use mathlib.Core.Bool.{Bool}
-use mathlib.Core.List.{List, [], _∷_}
+use mathlib.Core.List.{List, [], _∷_, _++_}
 use mathlib.Core.Option.{Option, none, some}
 use Prim.Native.Nat.{ℕ, zero, suc}
 use Rattle.instruction.specs.Word.{pick}
@@ -9,6 +9,16 @@ use Rattle.instruction.specs.Word.{pick}
 abbrev pub tab : {A : Type 0} → ℕ → (ℕ → A) → List A
 tab zero f = []
 tab (suc n) f = f zero ∷ tab n (λ k. f (suc k))
+
+-- the elements of f 0, then of f 1, .., then of f (n - 1)
+abbrev pub joined : {A : Type 0} → ℕ → (ℕ → List A) → List A
+joined zero f = []
+joined (suc n) f = f zero ++ joined n (λ k. f (suc k))
+
+-- P holds of every element
+abbrev pub Every : {A : Type 0} → (A → Type 0) → List A → Type 0
+Every P [] = Unit {0}
+Every P (x ∷ xs) = P x × Every P xs
 
 abbrev pub oneMore : Option ℕ → Option ℕ
 oneMore none = none

@@ -8,7 +8,7 @@ use lib.ListN.{length, getD, set}
 use lib.Seq.{getD-set-same, getD-set-other}
 use borrow.Author.Tests.{eq-eqb, ne-eqb}
 use Rattle.machine.specs.State.{Frame, noFrame}
-use Rattle.machine.specs.Shaped.{Every}
+use Rattle.program.specs.Lists.{Every}
 use Rattle.machine.specs.Run.{moved}
 use Rattle.turn.specs.Slots.{slot}
 use Rattle.memory.specs.Memory.{valueIn, frameAt}

@@ -7,7 +7,7 @@ use Prim.Native.Nat.{ℕ, _+_, _<_, _≤_}
 use lib.ListN.{length, getD}
 use Rattle.machine.specs.declared.Value.{Value}
 use Rattle.machine.specs.State.{Frame, Object, Status, running, raised, done, uncaught, failed, State, null, noObject}
-use Rattle.machine.specs.Shaped.{Every}
+use Rattle.program.specs.Lists.{Every}
 use Rattle.turn.specs.Slots.{slot}
 use Rattle.memory.specs.Memory.{valueWord, valueIn, frameAt}
 use Rattle.memory.specs.Writes.{framePlace, objectPlace}

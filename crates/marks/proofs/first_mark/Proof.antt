@@ -10,7 +10,8 @@ use Rattle.program.specs.Tables.{programIn}
 use Rattle.program.proofs.Read.{classes-limit, fields-limit}
 use Rattle.frame.specs.declared.Kind.the-variants.{Class, Field, Static}
 use Rattle.marks.specs.declared.Stop.{Stop}
-use Rattle.marks.specs.Marks.{marksIn, methodMarks, joined, marks, firstMark}
+use Rattle.program.specs.Lists.{joined}
+use Rattle.marks.specs.Marks.{marksIn, methodMarks, marks, firstMark}
 use Rattle.marks.proofs.Bounds.{statics-limit, kind-limit}
 use Rattle.marks.proofs.First.{stop-here, go-on, no-marks}
 use Rattle.marks.proofs.first_mark.Statement.{statement}

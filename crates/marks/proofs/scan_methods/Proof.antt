@@ -7,7 +7,8 @@ use native.Mathlib.Omega.{arith}
 use Rattle.program.specs.Program.{methodCount}
 use Rattle.program.specs.Tables.{programIn}
 use Rattle.program.proofs.Read.{methods-limit}
-use Rattle.marks.specs.Marks.{methodMarks, joined, firstMark}
+use Rattle.program.specs.Lists.{joined}
+use Rattle.marks.specs.Marks.{methodMarks, firstMark}
 use Rattle.marks.proofs.Bounds.{method-limit}
 use Rattle.marks.proofs.First.{joinedFrom, joined-start, joined-here, joined-on, joined-end}
 use Rattle.marks.proofs.scan_methods.Statement.{statement}

@@ -1,0 +1,1 @@
+// Claims: which bits a mask may have. Definitions (specs/) and laws.

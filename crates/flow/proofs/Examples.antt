@@ -1,0 +1,187 @@
+-- Verdicts and call lists by computation. Assumes nothing.
+use mathlib.Core.Path.{_≡_, refl}
+use mathlib.Core.Bool.{true}
+use mathlib.Core.List.{List, [], _∷_}
+use Prim.Native.Nat.{ℕ, _+_}
+use lib.IntN.{pos}
+use Rattle.instruction.specs.declared.Condition.the-variants.{Eq, Lt}
+use Rattle.instruction.specs.declared.Operation.the-variants.{Add}
+use Rattle.instruction.specs.declared.Unary.the-variants.{Neg}
+use Rattle.instruction.specs.declared.Instruction.{Instruction}
+use Rattle.instruction.specs.declared.Instruction.the-variants.{Nop, Move, Const, Goto, If, IfZero, Binop, Unop, NewInstance, Iget, Iput, Sget, Sput, InvokeVirtual, InvokeStatic, MoveResult, MoveException, Return, ReturnVoid, Throw, InstanceOf, CheckCast}
+use Rattle.instruction.specs.Word.{instructionOf, fieldsOf, conditionOf, operationOf, unaryOf, signedOf}
+use Rattle.mask.specs.Mask.{has, subset, hasNumber}
+use Rattle.search.specs.Search.{belowIn, hasField, answers, methodIn, calleeIn, catches, handlerFor}
+use Rattle.reader.proofs.Examples.{sampleProgram}
+use Rattle.machine.proofs.Programs.{handler}
+use Rattle.flow.specs.Claim.{Slot, registerAt, resultAt, fieldOf, staticOf, returnedBy, leaving}
+use Rattle.flow.specs.Verdict.{accepted, violated, verdict}
+use Rattle.flow.specs.Calls.{callList}
+use Rattle.flow.proofs.Samples.{zeros, nonzeros, alike, plain, allBits, full, but, Row, row, allRight, calling, doing, allInstructions, made}
+
+-- ---- the sample, and all allowed bits
+samples : List Row
+samples =
+    -- "every register, result and returned mask 4000000000000000 and both exception masks zero"
+    row sampleProgram plain accepted
+    -- "its result at method 0 address 1 made zero: `violated 07 00 00`"
+    ∷ row sampleProgram (but (resultAt 0 1) 0 plain) (violated 7 0 0)
+    -- "returned mask of 1 made zero: `violated 08 01 00`"
+    ∷ row sampleProgram (but (returnedBy 1) 0 plain) (violated 8 1 0)
+    -- "a claim with all allowed bits is accepted"
+    ∷ row sampleProgram (allBits 2) accepted
+    ∷ row allInstructions full accepted
+    ∷ []
+
+samples-right : allRight samples ≡ true
+unfolding samples verdict has subset hasNumber instructionOf fieldsOf conditionOf operationOf unaryOf signedOf belowIn hasField
+    answers methodIn calleeIn catches handlerFor
+samples-right = refl
+
+-- ---- what is not asked: in each row, a rule that asked it would be broken
+unasked : List Row
+unasked =
+    -- a written register's old mask at next: zero, then 5, then zero
+    row (doing (Const 0 (pos 5) ∷ Const 0 (pos 0) ∷ [])) (but (registerAt 0 1 0) nonzeros plain) accepted
+    -- the result before a call, static or virtual, at next
+    ∷ row (doing (InvokeStatic 3 1 0 ∷ [])) (but (returnedBy 3) 0 (but (resultAt 0 1) 0 full)) accepted
+    ∷ row (doing (InvokeVirtual 7 2 0 ∷ []))
+    (but (registerAt 0 0 0) (zeros + 16) (but (returnedBy 2) zeros (but (resultAt 0 1) zeros full)))
+    accepted
+    -- of a virtual call without a callee, anything of the result at next
+    ∷ row (doing (InvokeVirtual 9 1 0 ∷ [])) (but (resultAt 0 1) 0 full) accepted
+    -- null, numbers, and classes that lead elsewhere, of a receiver's parameter
+    ∷ row (doing (InvokeVirtual 7 2 0 ∷ [])) (but (registerAt 1 0 1) 8 (but (registerAt 2 0 0) 16 full)) accepted
+    -- a second handler that fits
+    ∷ row (calling (Throw 0 ∷ ReturnVoid ∷ []) (handler 0 1 1 1 ∷ handler 0 1 2 1 ∷ []))
+    (but (resultAt 0 2) 0 (but (registerAt 0 2 1) 0 full))
+    accepted
+    -- the callee's registers where a call's exception is handled
+    ∷ row (calling (InvokeStatic 3 1 0 ∷ []) (handler 0 1 1 0 ∷ []))
+    (but (registerAt 0 0 1) zeros (but (registerAt 0 1 1) zeros full))
+    accepted
+    -- the result before a throw, and classes not below Throwable, where it is handled and where it leaves
+    ∷ row (calling (Throw 0 ∷ []) (handler 0 1 1 0 ∷ [])) (but (resultAt 0 1) 6 full) accepted
+    ∷ row (doing (Throw 0 ∷ [])) (but (leaving 0) 6 full) accepted
+    -- numbers other than zero, and classes not at or below the cast's
+    ∷ row (doing (CheckCast 0 3 ∷ [])) (but (registerAt 0 1 0) (zeros + 24) full) accepted
+    -- numbers of a sum whose operand is an object
+    ∷ row (doing (NewInstance 1 3 ∷ Binop Add 0 0 1 ∷ [])) (but (registerAt 0 1 1) 8 (but (registerAt 0 2 0) 0 full)) accepted
+    -- the field of a class that the object's register does not have
+    ∷ row (doing (NewInstance 1 3 ∷ Iget 0 1 0 ∷ []))
+    (but (registerAt 0 1 1) 8 (but (fieldOf 3 0) zeros (but (registerAt 0 2 0) zeros full)))
+    accepted
+    ∷ row (doing (NewInstance 1 3 ∷ Iput 0 1 0 ∷ [])) (but (registerAt 0 1 1) 8 (but (fieldOf 4 0) zeros full)) accepted
+    -- what follows a goto, a return and a throw
+    ∷ row (doing (Goto 2 ∷ ReturnVoid ∷ [])) (but (registerAt 0 1 0) 0 (but (resultAt 0 1) 0 full)) accepted
+    ∷ row (doing (ReturnVoid ∷ [])) (but (registerAt 0 1 0) 0 (but (resultAt 0 1) 0 full)) accepted
+    ∷ row (doing (Throw 0 ∷ [])) (but (registerAt 0 1 0) 0 (but (resultAt 0 1) 0 full)) accepted
+    -- zero's bit in an argument's register
+    ∷ row (doing []) (but (registerAt 3 0 1) 0 full) accepted
+    ∷ []
+
+unasked-right : allRight unasked ≡ true
+unfolding unasked verdict has subset hasNumber instructionOf fieldsOf operationOf signedOf belowIn hasField answers methodIn calleeIn
+    catches handlerFor
+unasked-right = refl
+
+-- ---- each rule broken
+-- all bits, but for one slot: broken at address 0 of method 0
+abbrev breaks : ℕ → List Instruction → Slot → ℕ → Row
+breaks rule code slot bits = row (doing code) (but slot bits full) (violated rule 0 0)
+
+broken : List Row
+broken =
+    -- 0: a static, a field
+    breaks 0 [] (staticOf 1) nonzeros
+    ∷ breaks 0 [] (fieldOf 4 0) nonzeros
+    -- "tested first": no mask has a bit, so that rules 1 and 8 are broken too
+    ∷ row (doing []) (alike 0 0) (violated 0 0 0)
+    -- and where rule 4 is broken at the same address
+    ∷ row (doing (Const 0 (pos 5) ∷ [])) (but (staticOf 1) 0 plain) (violated 0 0 0)
+    -- 1: a register, the result, and a method that is not called
+    ∷ breaks 1 [] (registerAt 0 0 1) nonzeros
+    ∷ breaks 1 [] (resultAt 0 0) nonzeros
+    ∷ row (doing []) (but (registerAt 1 0 0) nonzeros full) (violated 1 1 0)
+    -- 2: a register, the result, another register than the written one, at the branch not taken, after a call
+    ∷ breaks 2 (Nop ∷ []) (registerAt 0 1 1) zeros
+    ∷ breaks 2 (Nop ∷ []) (resultAt 0 1) zeros
+    ∷ breaks 2 (Const 0 (pos 5) ∷ []) (registerAt 0 1 1) zeros
+    ∷ breaks 2 (IfZero Eq 0 0 ∷ []) (registerAt 0 1 0) zeros
+    ∷ breaks 2 (InvokeStatic 3 1 0 ∷ []) (registerAt 0 1 0) zeros
+    ∷ breaks 2 (InvokeVirtual 7 2 0 ∷ []) (registerAt 0 1 1) zeros
+    -- 3: the result, a register
+    ∷ breaks 3 (Goto 1 ∷ []) (resultAt 0 1) zeros
+    ∷ breaks 3 (If Lt 0 1 2 ∷ Nop ∷ []) (registerAt 0 2 0) zeros
+    ∷ breaks 3 (IfZero Eq 0 2 ∷ Nop ∷ []) (registerAt 0 2 1) zeros
+    -- 4: each instruction that writes; a register moved to itself is written
+    ∷ breaks 4 (Move 0 1 ∷ []) (registerAt 0 1 0) zeros
+    ∷ breaks 4 (Move 0 0 ∷ []) (registerAt 0 1 0) zeros
+    ∷ breaks 4 (Const 0 (pos 5) ∷ []) (registerAt 0 1 0) zeros
+    ∷ breaks 4 (Const 0 (pos 0) ∷ []) (registerAt 0 1 0) nonzeros
+    ∷ breaks 4 (Binop Add 0 0 1 ∷ []) (registerAt 0 1 0) zeros
+    ∷ breaks 4 (Binop Add 0 0 1 ∷ []) (registerAt 0 1 0) nonzeros
+    ∷ breaks 4 (Unop Neg 0 1 ∷ []) (registerAt 0 1 0) zeros
+    ∷ breaks 4 (NewInstance 0 3 ∷ []) (registerAt 0 1 0) 16
+    ∷ breaks 4 (Iget 0 1 1 ∷ []) (registerAt 0 1 0) zeros
+    ∷ breaks 4 (Sget 0 1 ∷ []) (registerAt 0 1 0) zeros
+    ∷ breaks 4 (MoveResult 0 ∷ []) (registerAt 0 1 0) zeros
+    ∷ breaks 4 (MoveException 0 ∷ []) (registerAt 0 1 0) zeros
+    ∷ breaks 4 (InstanceOf 0 1 3 ∷ []) (registerAt 0 1 0) zeros
+    -- a cast to class 3 passes null and class 4
+    ∷ breaks 4 (CheckCast 0 3 ∷ []) (registerAt 0 1 0) 24
+    ∷ breaks 4 (CheckCast 0 3 ∷ []) (registerAt 0 1 0) (zeros + 8)
+    -- 5: a field in a class below, a static
+    ∷ breaks 5 (Iput 0 1 0 ∷ []) (fieldOf 4 0) zeros
+    ∷ breaks 5 (Sput 0 1 ∷ []) (staticOf 1) zeros
+    -- 6: an argument, a receiver's class, an argument after the receiver
+    ∷ breaks 6 (InvokeStatic 3 1 0 ∷ []) (registerAt 3 0 1) zeros
+    ∷ breaks 6 (InvokeVirtual 7 2 0 ∷ []) (registerAt 2 0 0) 8
+    ∷ breaks 6 (InvokeVirtual 7 2 0 ∷ []) (registerAt 1 0 2) zeros
+    -- 7, 8: a virtual call, a return of a register
+    ∷ breaks 7 (InvokeVirtual 7 2 0 ∷ []) (resultAt 0 1) zeros
+    ∷ breaks 8 (Return 0 ∷ []) (returnedBy 0) zeros
+    -- 9: the result and a register where a throw is handled; the same of a static and a virtual call
+    ∷ row (calling (Throw 0 ∷ []) (handler 0 1 1 2 ∷ [])) (but (resultAt 0 1) zeros full) (violated 9 0 0)
+    ∷ row (calling (Throw 0 ∷ []) (handler 0 1 1 2 ∷ [])) (but (registerAt 0 1 1) zeros full) (violated 9 0 0)
+    ∷ row (calling (InvokeStatic 3 1 0 ∷ Nop ∷ []) (handler 0 1 2 2 ∷ [])) (but (resultAt 0 2) zeros full) (violated 9 0 0)
+    ∷ row (calling (InvokeVirtual 7 2 0 ∷ Nop ∷ []) (handler 0 1 2 2 ∷ [])) (but (registerAt 0 2 1) zeros full) (violated 9 0 0)
+    -- 10: what a throw lets leave; what leaves a callee, Throwable or not
+    ∷ breaks 10 (Throw 0 ∷ []) (leaving 0) 4
+    ∷ breaks 10 (InvokeStatic 3 1 0 ∷ []) (leaving 0) 6
+    ∷ breaks 10 (InvokeVirtual 7 2 0 ∷ []) (leaving 0) 6
+    -- class 1 breaks 10 and class 2 breaks 9: the lowest rule is reported
+    ∷ row (calling (Throw 0 ∷ []) (handler 0 1 1 2 ∷ [])) (but (leaving 0) 0 (but (resultAt 0 1) zeros full)) (violated 9 0 0)
+    -- a lower method comes before a lower address, and that before a lower rule
+    ∷ row (doing (Nop ∷ [])) (but (returnedBy 0) 0 (but (registerAt 1 0 0) 0 plain)) (violated 8 0 1)
+    ∷ row (doing (ReturnVoid ∷ Const 0 (pos 5) ∷ [])) (but (returnedBy 0) 0 plain) (violated 8 0 0)
+    -- code that nothing reaches is tested: after a goto, after a return
+    ∷ row (doing (Goto 2 ∷ Const 0 (pos 5) ∷ [])) plain (violated 4 0 1)
+    ∷ row (doing (ReturnVoid ∷ Const 0 (pos 5) ∷ [])) plain (violated 4 0 1)
+    ∷ []
+
+broken-right : allRight broken ≡ true
+unfolding broken verdict has subset hasNumber instructionOf fieldsOf conditionOf operationOf unaryOf signedOf belowIn hasField
+    answers methodIn calleeIn catches handlerFor
+broken-right = refl
+
+-- ---- call lists
+-- "it prints the two lines `accepted`, `00 00 01`"
+sample-calls : callList sampleProgram plain ≡ made 0 0 1 ∷ []
+unfolding callList has instructionOf fieldsOf
+sample-calls = refl
+
+-- a virtual call with every class in the receiver, a static call
+all-calls : callList allInstructions full ≡ made 0 6 1 ∷ made 0 6 2 ∷ made 0 12 3 ∷ []
+unfolding callList has instructionOf fieldsOf answers methodIn calleeIn
+all-calls = refl
+
+-- with class 4 alone in the receiver
+one-class : callList allInstructions (but (registerAt 0 6 0) 16 full) ≡ made 0 6 2 ∷ made 0 12 3 ∷ []
+unfolding callList has instructionOf fieldsOf answers methodIn calleeIn
+one-class = refl
+
+-- code that nothing reaches has its calls too
+unreached : callList (doing (Goto 2 ∷ InvokeStatic 3 1 0 ∷ [])) plain ≡ made 0 1 3 ∷ []
+unfolding callList has instructionOf fieldsOf
+unreached = refl

@@ -1,0 +1,19 @@
+-- Laws of the flow rules: what a verdict says, the call list, the invariant of the run, the coverage theorem; and examples.
+pub mod Kept
+pub mod Rising
+pub mod Verdicts
+pub mod Ordered
+pub mod Listed
+pub mod Frames
+pub mod Decided
+pub mod Allowed
+pub mod Calls
+pub mod Objects
+pub mod Applied
+pub mod Keeps
+pub mod Run
+pub mod History
+pub mod Theorem
+pub mod Samples
+pub mod Examples
+pub mod Refuted

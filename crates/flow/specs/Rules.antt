@@ -1,0 +1,186 @@
+-- The flow rules: what is asked at each address, one clause an instruction. They follow source documents 002 (section 4, one
+-- abstract object a class) and 004 (appendix E). Document 01 differs from both, and decides: registers, fields and statics start at
+-- zero (rules 0 and 1); a sum has both numbers' bits; a receiver gives its callee only the class bit that leads there, and not its
+-- mask; return-void returns zero; a cast lets on only what passes it; a fault raises no exception. Definitions only.
+use mathlib.Core.Path.{_≡_}
+use mathlib.Core.Bool.{not, _&&_}
+use mathlib.Core.List.{List, [], _∷_}
+use Prim.Native.Nat.{ℕ, suc, _+_, _-_, _<_}
+use lib.Dec.{eqb}
+use Rattle.instruction.specs.declared.Instruction.{Instruction}
+use Rattle.instruction.specs.declared.Instruction.the-variants.{Nop, Move, Const, Goto, If, IfZero, Binop, Unop, NewInstance, Iget, Iput, Sget, Sput, InvokeVirtual, InvokeStatic, MoveResult, MoveException, Return, ReturnVoid, Throw, InstanceOf, CheckCast}
+use Rattle.mask.specs.Mask.{zeroBit, otherBit}
+use Rattle.program.specs.Program.{Program, classCount, fieldCount, methodCount, registers, arguments, codeLength, instructionAt, handlerTarget}
+use Rattle.program.specs.Lists.{Every}
+use Rattle.search.specs.declared.Callee.the-variants.{Found}
+use Rattle.search.specs.Search.{below, hasField, virtualCallee, handlerFor}
+use Rattle.flow.specs.Claim.{Slot, registerAt, resultAt, fieldOf, staticOf, returnedBy, leaving, Claim, numberBit}
+use Rattle.flow.specs.Flows.{Flows, _∈_, _⊆_, _&_, each, given, numeric, when, found, handled, unhandled, Holds}
+
+-- a rule by its number, and what it asks
+pub record Rule : Type 0 where
+  pub number : ℕ
+  pub flows : Flows
+
+abbrev pub rule : ℕ → Flows → Rule
+rule n f = record { number = n; flows = f }
+
+-- "0: bit 62 is in every field and static mask"
+abbrev pub initialMemory : Program → Flows
+initialMemory p =
+    each (classCount p) (λ k. each (fieldCount p) (λ x. when (hasField p k x) (zeroBit ∈ fieldOf k x)))
+    & each (p .statics) (λ x. zeroBit ∈ staticOf x)
+
+-- "1: at address 0, non-argument registers and result have bit 62"
+abbrev pub entry : Program → ℕ → Flows
+entry p m = each (registers p m - arguments p m) (λ r. zeroBit ∈ registerAt m 0 r) & zeroBit ∈ resultAt m 0
+
+-- "held in the last a registers": the register of method q that holds argument i
+abbrev pub parameter : Program → ℕ → ℕ → ℕ
+parameter p q i = registers p q - arguments p q + i
+
+module _ (p : Program) (m pc : ℕ) where
+  -- the slot of register r here
+  abbrev pub here : ℕ → Slot
+  here r = registerAt m pc r
+
+  -- "\"next\" is address + 1", and the slot of register r there
+  abbrev pub next : ℕ
+  next = suc pc
+
+  abbrev pub after : ℕ → Slot
+  after r = registerAt m next r
+
+  -- registers flow to address `to`; registers and result do; all but register a do
+  abbrev pub carried : ℕ → Flows
+  carried to = each (registers p m) (λ r. here r ⊆ registerAt m to r)
+
+  abbrev pub onward : ℕ → Flows
+  onward to = carried to & resultAt m pc ⊆ resultAt m to
+
+  abbrev pub others : ℕ → ℕ → Flows
+  others a to =
+      each (registers p m) (λ r. when (not (eqb r a)) (here r ⊆ registerAt m to r)) & resultAt m pc ⊆ resultAt m to
+
+  -- "2 next, 3 target: registers and result flow on"
+  abbrev pub goesOn : Rule
+  goesOn = rule 2 (onward next)
+
+  abbrev pub jumps : ℕ → Rule
+  jumps to = rule 3 (onward to)
+
+  -- "after calls the result does not flow"
+  abbrev pub afterCall : Rule
+  afterCall = rule 2 (carried next)
+
+  -- "except a written register"; "4: what is written goes into a at next"
+  abbrev pub writes : ℕ → Flows → List Rule
+  writes a f = rule 2 (others a next) ∷ rule 4 f ∷ []
+
+  -- both numbers' bits go into a at next
+  abbrev pub numbersInto : ℕ → Flows
+  numbersInto a = zeroBit ∈ after a & otherBit ∈ after a
+
+  -- each class in register b
+  abbrev pub classesIn : ℕ → (ℕ → Flows) → Flows
+  classesIn b f = each (classCount p) (λ k. given k (here b) (f k))
+
+  -- each class in register b that has field x
+  abbrev pub havers : ℕ → ℕ → (ℕ → Flows) → Flows
+  havers b x f = classesIn b (λ k. when (hasField p k x) (f k))
+
+  -- "bit 62 and classes at or below b, out of a": what passes a cast of register a to class k
+  abbrev pub castInto : ℕ → ℕ → Flows
+  castInto a k =
+      given zeroBit (here a) (zeroBit ∈ after a)
+      & classesIn a (λ j. when (below p j k) (j ∈ after a))
+
+  -- "6: arguments into parameters at the callee's address 0": argument i of those in registers from c on
+  abbrev pub passed : ℕ → ℕ → ℕ → Flows
+  passed c q i = here (c + i) ⊆ registerAt q 0 (parameter p q i)
+
+  -- "a virtual receiver gives only the class bit that leads there"
+  abbrev pub received : ℕ → ℕ → Flows
+  received k q = k ∈ registerAt q 0 (parameter p q 0)
+
+  -- each class in the receiver, register c, with the callee that it leads to
+  abbrev pub receivers : ℕ → ℕ → ℕ → (ℕ → ℕ → Flows) → Flows
+  receivers name b c f = classesIn c (λ k. found (virtualCallee p k name b) (f k))
+
+  -- "7: callee's returned mask into the result at next"
+  abbrev pub answered : ℕ → Flows
+  answered q = returnedBy q ⊆ resultAt m next
+
+  -- "with a handler (9), registers go into its target and the class bit into the target's result"
+  abbrev pub caught : ℕ → Flows
+  caught k = handled (handlerFor p m pc k) (λ h. carried (handlerTarget p m h) & k ∈ resultAt m (handlerTarget p m h))
+
+  -- "with none (10), the bit goes into the method's mask"
+  abbrev pub uncaught : ℕ → Flows
+  uncaught k = unhandled (handlerFor p m pc k) (k ∈ leaving m)
+
+  -- "for each Throwable class in a throw's mask"
+  abbrev pub thrown : ℕ → (ℕ → Flows) → Flows
+  thrown a f = classesIn a (λ k. when (below p k 1) (f k))
+
+  -- "and each class leaving a callee"
+  abbrev pub escaped : (ℕ → Flows) → ℕ → Flows
+  escaped f q = each (classCount p) (λ k. given k (leaving q) (f k))
+
+  -- rules 2 to 10 at an instruction
+  abbrev pub along : Instruction → List Rule
+  along Nop = goesOn ∷ []
+  along (Move a b) = writes a (here b ⊆ after a)
+  along (Const a d) = writes a (numberBit d ∈ after a)
+  -- "Goto has no next"
+  along (Goto d) = jumps d ∷ []
+  along (If c a b d) = goesOn ∷ jumps d ∷ []
+  along (IfZero c a d) = goesOn ∷ jumps d ∷ []
+  -- "binop and unop: bits 62 and 63 if every operand has one of them"
+  along (Binop o a b c) = writes a (numeric (here b) (numeric (here c) (numbersInto a)))
+  along (Unop o a b) = writes a (numeric (here b) (numbersInto a))
+  along (NewInstance a k) = writes a (k ∈ after a)
+  -- "iget: the field's mask for each class in b that has it"
+  along (Iget a b x) = writes a (havers b x (λ k. fieldOf k x ⊆ after a))
+  -- "5: iput into each such class's field; sput into the static"
+  along (Iput a b x) = goesOn ∷ rule 5 (havers b x (λ k. here a ⊆ fieldOf k x)) ∷ []
+  along (Sget a x) = writes a (staticOf x ⊆ after a)
+  along (Sput a x) = goesOn ∷ rule 5 (here a ⊆ staticOf x) ∷ []
+  along (InvokeVirtual n b c) =
+      afterCall
+      ∷ rule 6 (receivers n b c (λ k q. received k q & each (b - 1) (λ i. passed c q (suc i))))
+      ∷ rule 7 (receivers n b c (λ k. answered))
+      ∷ rule 9 (receivers n b c (λ k. escaped caught))
+      ∷ rule 10 (receivers n b c (λ k. escaped uncaught))
+      ∷ []
+  along (InvokeStatic q b c) =
+      afterCall
+      ∷ rule 6 (found (Found q) (λ q. each b (passed c q)))
+      ∷ rule 7 (answered q)
+      ∷ rule 9 (escaped caught q)
+      ∷ rule 10 (escaped uncaught q)
+      ∷ []
+  along (MoveResult a) = writes a (resultAt m pc ⊆ after a)
+  along (MoveException a) = writes a (resultAt m pc ⊆ after a)
+  -- "8: return's mask, or bit 62 for return-void, into returned"; "return, return-void and throw have neither"
+  along (Return a) = rule 8 (here a ⊆ returnedBy m) ∷ []
+  along ReturnVoid = rule 8 (zeroBit ∈ returnedBy m) ∷ []
+  along (Throw a) = rule 9 (thrown a caught) ∷ rule 10 (thrown a uncaught) ∷ []
+  -- "instance-of: 62 and 63"
+  along (InstanceOf a b k) = writes a (numbersInto a)
+  along (CheckCast a k) = writes a (castInto a k)
+
+  -- "Rules, all asked at every address"; rule 0 is asked, and reported, at 00 00
+  abbrev pub rulesAt : List Rule
+  rulesAt =
+      rule 0 (when (eqb m 0 && eqb pc 0) (initialMemory p))
+      ∷ rule 1 (when (eqb pc 0) (entry p m))
+      ∷ along (instructionAt p m pc)
+
+-- rule n holds at address pc of method m
+abbrev pub RuleHolds : Program → Claim → ℕ → ℕ → ℕ → Type 0
+RuleHolds p c n m pc = Every (λ r. r .number ≡ n → Holds c (r .flows)) (rulesAt p m pc)
+
+-- every rule holds
+abbrev pub RulesHold : Program → Claim → Type 0
+RulesHold p c = (m pc n : ℕ) → m < methodCount p → pc < codeLength p m → RuleHolds p c n m pc

@@ -1,0 +1,3 @@
+-- Examples and laws of masks.
+pub mod Examples
+pub mod Laws
