@@ -43,13 +43,6 @@ unasked : List Row
 unasked =
     -- a written register's old mask at next: zero, then 5, then zero
     row (doing (Const 0 (pos 5) ∷ Const 0 (pos 0) ∷ [])) (but (registerAt 0 1 0) nonzeros plain) accepted
-    -- the result before a call, static or virtual, at next
-    ∷ row (doing (InvokeStatic 3 1 0 ∷ [])) (but (returnedBy 3) 0 (but (resultAt 0 1) 0 full)) accepted
-    ∷ row (doing (InvokeVirtual 7 2 0 ∷ []))
-    (but (registerAt 0 0 0) (zeros + 16) (but (returnedBy 2) zeros (but (resultAt 0 1) zeros full)))
-    accepted
-    -- of a virtual call without a callee, anything of the result at next
-    ∷ row (doing (InvokeVirtual 9 1 0 ∷ [])) (but (resultAt 0 1) 0 full) accepted
     -- null, numbers, and classes that lead elsewhere, of a receiver's parameter
     ∷ row (doing (InvokeVirtual 7 2 0 ∷ [])) (but (registerAt 1 0 1) 8 (but (registerAt 2 0 0) 16 full)) accepted
     -- a second handler that fits
@@ -84,6 +77,22 @@ unasked-right : allRight unasked ≡ true
 unfolding unasked verdict has subset hasNumber instructionOf fieldsOf operationOf signedOf belowIn hasField answers methodIn calleeIn
     catches handlerFor
 unasked-right = refl
+
+-- the same of the result after a call
+afterCalls : List Row
+afterCalls =
+    -- the result before a call, static or virtual, at next
+    row (doing (InvokeStatic 3 1 0 ∷ [])) (but (returnedBy 3) 0 (but (resultAt 0 1) 0 full)) accepted
+    ∷ row (doing (InvokeVirtual 7 2 0 ∷ []))
+    (but (registerAt 0 0 0) (zeros + 16) (but (returnedBy 2) zeros (but (resultAt 0 1) zeros full)))
+    accepted
+    -- of a virtual call without a callee, anything of the result at next
+    ∷ row (doing (InvokeVirtual 9 1 0 ∷ [])) (but (resultAt 0 1) 0 full) accepted
+    ∷ []
+
+after-calls-right : allRight afterCalls ≡ true
+unfolding afterCalls verdict has subset hasNumber instructionOf fieldsOf belowIn hasField answers methodIn calleeIn handlerFor
+after-calls-right = refl
 
 -- ---- each rule broken
 -- all bits, but for one slot: broken at address 0 of method 0
