@@ -19,13 +19,13 @@ use Rattle.reader.specs.Formed.{Formed}
 use Rattle.machine.proofs.Elements.{pick-cases}
 use Rattle.flow.specs.Claim.{Slot, registerAt, resultAt, fieldOf, staticOf, returnedBy, leaving, Claim, numberBit}
 use Rattle.flow.specs.Flows.{_⊆_, Holds}
-use Rattle.flow.specs.Rules.{initialMemory, entry, carried, onward, others, numbersInto, caught, uncaught, along}
+use Rattle.flow.specs.Rules.{initialMemory, entry, carried, onward, onwardExcept, numbersInto, intoHandler, intoLeaving, rulesOf}
 use Rattle.flow.specs.Verdict.{accepted, verdict}
 use Rattle.flow.specs.Calls.{callList}
 use Rattle.flow.specs.Covered.{Covered}
-use Rattle.claim.specs.Allowed.{valueBit, allowed, fullClaim}
 use Rattle.flow.proofs.Verdicts.{rules-hold, holds-accepted}
 use Rattle.flow.proofs.Theorem.{covered}
+use Rattle.claim.specs.Allowed.{valueBit, allowed, fullClaim}
 use Rattle.claim.proofs.Bits.{full-has}
 
 module _ (p : Program) (c : Claim) (full : (s : Slot) (k : ℕ) → has (c s) k ≡ allowed p s k) where
@@ -60,8 +60,8 @@ module _ (p : Program) (c : Claim) (full : (s : Slot) (k : ℕ) → has (c s) k 
       onward-holds : (to : ℕ) → Holds c (onward p m pc to)
       onward-holds to = (carried-holds to, into (resultAt m pc) (resultAt m to) (λ _. refl))
 
-      others-hold : (a to : ℕ) → Holds c (others p m pc a to)
-      others-hold a to = (λ r l _. carried-holds to r l, into (resultAt m pc) (resultAt m to) (λ _. refl))
+      except-holds : (a to : ℕ) → Holds c (onwardExcept p m pc a to)
+      except-holds a to = (λ r l _. carried-holds to r l, into (resultAt m pc) (resultAt m to) (λ _. refl))
 
       -- a bit, and a slot's mask, into register a at next
       bit-after : (a k : ℕ) → valueBit p k ≡ true → has (c (registerAt m (suc pc) a)) k ≡ true
@@ -70,42 +70,42 @@ module _ (p : Program) (c : Claim) (full : (s : Slot) (k : ℕ) → has (c s) k 
       numbers-hold : (a : ℕ) → Holds c (numbersInto p m pc a)
       numbers-hold a = (bit-after a zeroBit zero-bit, bit-after a otherBit other-bit)
 
-      caught-holds : (k : ℕ) → k < classCount p → Holds c (caught p m pc k)
+      caught-holds : (k : ℕ) → k < classCount p → Holds c (intoHandler p m pc k)
       caught-holds k l h e = (carried-holds _, full (resultAt m _) k ∙ class-bit k l)
 
-      uncaught-holds : (k : ℕ) → k < classCount p → Holds c (uncaught p m pc k)
+      uncaught-holds : (k : ℕ) → k < classCount p → Holds c (intoLeaving p m pc k)
       uncaught-holds k l e = full (leaving m) k ∙ lt-ltb k (classCount p) l
 
-      along-holds : (i : Instruction) → TestHolds (named (limitsOf p m) i) → Every (λ r. Holds c (r .flows)) (along p m pc i)
-      along-holds Nop h = (onward-holds (suc pc), tt)
-      along-holds (Move a b) h = (others-hold a (suc pc), (into _ (registerAt m (suc pc) a) (λ _. refl), tt))
-      along-holds (Const a d) h = (others-hold a (suc pc), (bit-after a (numberBit d) (number-bit d), tt))
-      along-holds (Goto d) h = (onward-holds d, tt)
-      along-holds (If o a b d) h = (onward-holds (suc pc), (onward-holds d, tt))
-      along-holds (IfZero o a d) h = (onward-holds (suc pc), (onward-holds d, tt))
-      along-holds (Binop o a b d) h = (others-hold a (suc pc), (λ _ _. numbers-hold a, tt))
-      along-holds (Unop o a b) h = (others-hold a (suc pc), (λ _. numbers-hold a, tt))
-      along-holds (NewInstance a k) h = (others-hold a (suc pc), (bit-after a k (class-bit k (h .1)), tt))
-      along-holds (Iget a b x) h = (others-hold a (suc pc), (λ k _ _ _. into (fieldOf k x) (registerAt m (suc pc) a) (λ _. refl), tt))
-      along-holds (Iput a b x) h = (onward-holds (suc pc), (λ k _ _ _. into (registerAt m pc a) (fieldOf k x) (λ _. refl), tt))
-      along-holds (Sget a x) h = (others-hold a (suc pc), (into (staticOf x) (registerAt m (suc pc) a) (λ _. refl), tt))
-      along-holds (Sput a x) h = (onward-holds (suc pc), (into (registerAt m pc a) (staticOf x) (λ _. refl), tt))
-      along-holds (InvokeVirtual n b r) h = (carried-holds (suc pc), (λ k l _ q _. (full (registerAt q 0 _) k ∙ class-bit k l, λ i _. into (registerAt m pc _) (registerAt q 0 _) (λ _. refl)), (λ k _ _ q _. into (returnedBy q) (resultAt m (suc pc)) (λ _. refl), (λ _ _ _ q _ k l _. caught-holds k l, (λ _ _ _ q _ k l _. uncaught-holds k l, tt)))))
-      along-holds (InvokeStatic q b r) h = (carried-holds (suc pc), (λ n _ i _. into (registerAt m pc _) (registerAt n 0 _) (λ _. refl), (into (returnedBy q) (resultAt m (suc pc)) (λ _. refl), (λ k l _. caught-holds k l, (λ k l _. uncaught-holds k l, tt)))))
-      along-holds (MoveResult a) h = (others-hold a (suc pc), (into (resultAt m pc) (registerAt m (suc pc) a) (λ _. refl), tt))
-      along-holds (MoveException a) h = (others-hold a (suc pc), (into (resultAt m pc) (registerAt m (suc pc) a) (λ _. refl), tt))
-      along-holds (Return a) h = (into (registerAt m pc a) (returnedBy m) (λ _. refl), tt)
-      along-holds ReturnVoid h = (full (returnedBy m) zeroBit ∙ zero-bit, tt)
-      along-holds (Throw a) h = (λ k l _ _. caught-holds k l, (λ k l _ _. uncaught-holds k l, tt))
-      along-holds (InstanceOf a b k) h = (others-hold a (suc pc), (numbers-hold a, tt))
-      along-holds (CheckCast a k) h = (others-hold a (suc pc), ((λ _. bit-after a zeroBit zero-bit, λ j l _ _. bit-after a j (class-bit j l)), tt))
+      rules-of-hold : (i : Instruction) → TestHolds (named (limitsOf p m) i) → Every (λ r. Holds c (r .flows)) (rulesOf p m pc i)
+      rules-of-hold Nop h = (onward-holds (suc pc), tt)
+      rules-of-hold (Move a b) h = (except-holds a (suc pc), (into _ (registerAt m (suc pc) a) (λ _. refl), tt))
+      rules-of-hold (Const a d) h = (except-holds a (suc pc), (bit-after a (numberBit d) (number-bit d), tt))
+      rules-of-hold (Goto d) h = (onward-holds d, tt)
+      rules-of-hold (If o a b d) h = (onward-holds (suc pc), (onward-holds d, tt))
+      rules-of-hold (IfZero o a d) h = (onward-holds (suc pc), (onward-holds d, tt))
+      rules-of-hold (Binop o a b d) h = (except-holds a (suc pc), (λ _ _. numbers-hold a, tt))
+      rules-of-hold (Unop o a b) h = (except-holds a (suc pc), (λ _. numbers-hold a, tt))
+      rules-of-hold (NewInstance a k) h = (except-holds a (suc pc), (bit-after a k (class-bit k (h .1)), tt))
+      rules-of-hold (Iget a b x) h = (except-holds a (suc pc), (λ k _ _ _. into (fieldOf k x) (registerAt m (suc pc) a) (λ _. refl), tt))
+      rules-of-hold (Iput a b x) h = (onward-holds (suc pc), (λ k _ _ _. into (registerAt m pc a) (fieldOf k x) (λ _. refl), tt))
+      rules-of-hold (Sget a x) h = (except-holds a (suc pc), (into (staticOf x) (registerAt m (suc pc) a) (λ _. refl), tt))
+      rules-of-hold (Sput a x) h = (onward-holds (suc pc), (into (registerAt m pc a) (staticOf x) (λ _. refl), tt))
+      rules-of-hold (InvokeVirtual n b r) h = (carried-holds (suc pc), (λ k l _ q _. (full (registerAt q 0 _) k ∙ class-bit k l, λ i _. into (registerAt m pc _) (registerAt q 0 _) (λ _. refl)), (λ k _ _ q _. into (returnedBy q) (resultAt m (suc pc)) (λ _. refl), (λ _ _ _ q _ k l _. caught-holds k l, (λ _ _ _ q _ k l _. uncaught-holds k l, tt)))))
+      rules-of-hold (InvokeStatic q b r) h = (carried-holds (suc pc), (λ n _ i _. into (registerAt m pc _) (registerAt n 0 _) (λ _. refl), (into (returnedBy q) (resultAt m (suc pc)) (λ _. refl), (λ k l _. caught-holds k l, (λ k l _. uncaught-holds k l, tt)))))
+      rules-of-hold (MoveResult a) h = (except-holds a (suc pc), (into (resultAt m pc) (registerAt m (suc pc) a) (λ _. refl), tt))
+      rules-of-hold (MoveException a) h = (except-holds a (suc pc), (into (resultAt m pc) (registerAt m (suc pc) a) (λ _. refl), tt))
+      rules-of-hold (Return a) h = (into (registerAt m pc a) (returnedBy m) (λ _. refl), tt)
+      rules-of-hold ReturnVoid h = (full (returnedBy m) zeroBit ∙ zero-bit, tt)
+      rules-of-hold (Throw a) h = (λ k l _ _. caught-holds k l, (λ k l _ _. uncaught-holds k l, tt))
+      rules-of-hold (InstanceOf a b k) h = (except-holds a (suc pc), (numbers-hold a, tt))
+      rules-of-hold (CheckCast a k) h = (except-holds a (suc pc), ((λ _. bit-after a zeroBit zero-bit, λ j l _ _. bit-after a j (class-bit j l)), tt))
 
   all-accepted : Formed p → verdict p c ≡ accepted
   all-accepted formed =
       holds-accepted p c
       (rules-hold p c
       (λ m pc l k.
-      (λ _. memory-holds, (λ _. entry-holds m, along-holds m pc (instructionAt p m pc) (formed .methods m l .names pc k)))))
+      (λ _. memory-holds, (λ _. entry-holds m, rules-of-hold m pc (instructionAt p m pc) (formed .methods m l .names pc k)))))
 
 -- "a claim with all allowed bits is accepted"
 pub full-accepted : (p : Program) → Formed p → verdict p (fullClaim p) ≡ accepted

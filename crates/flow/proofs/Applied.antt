@@ -1,4 +1,4 @@
--- An allowed effect keeps the invariant, one lemma an effect, and so does the unwinding of a pending object. Assumes nothing.
+-- An safe effect keeps the invariant, one lemma an effect, and so does the unwinding of a pending object. Assumes nothing.
 use mathlib.Core.Path.{_≡_, refl}
 use mathlib.Core.Bool.{true}
 use mathlib.Core.List.{List, [], _∷_, _++_}
@@ -20,7 +20,8 @@ use Rattle.machine.specs.Shaped.{Shaped, Fitting}
 use Rattle.flow.specs.Claim.{staticOf, returnedBy, leaving, Claim}
 use Rattle.flow.specs.Flows.{Holds}
 use Rattle.flow.specs.Rules.{carried}
-use Rattle.flow.specs.Inside.{Asked, RaisedAt, by-call, Lies, FrameIn, CalledFrom, FramesIn, StaticsIn, PendingIn, Inside, Allowed}
+use Rattle.flow.specs.Inside.{Asked, RaisedAt, by-call, Lies, FrameIn, CalledFrom, FramesIn, StaticsIn, PendingIn, Inside}
+use Rattle.flow.specs.Safe.{SafeEffect}
 use Rattle.flow.proofs.Frames.{Keeps, lies-kept, frame-kept, frames-kept, set-lies}
 use Rattle.flow.proofs.Calls.{target-inside, call-rules, raised-rules}
 use Rattle.flow.proofs.Objects.{made-keeps, made-class, stored-keeps, made-in, stored-in}
@@ -63,60 +64,60 @@ module _ (p : Program) (c : Claim) (formed : Formed p) (asked : Asked p c) (s : 
     top-changed : (g : Frame) → g .method ≡ f .method → FrameIn p c (s .objects) g → FramesIn p c (s .objects) (g ∷ rest)
     top-changed g same h = (h, rw same (top-in .1), top-in .2)
 
-    make-inside : (a k : ℕ) → Allowed p c s f (Make a k) → Inside p c (apply p s f rest (Make a k))
-    make-inside a k allowed =
+    make-inside : (a k : ℕ) → SafeEffect p c s f (Make a k) → Inside p c (apply p s f rest (Make a k))
+    make-inside a k safe =
         let os = s .objects ++ fresh p k ∷ [] in
         let keeps : Keeps (s .objects) os = made-keeps (s .objects) (fresh p k) in
         record {
           frames = (
-            allowed .1 os (frame-kept p c (s .objects) os keeps f (top-in .0)) (made-class (s .objects) (fresh p k)),
+            safe .1 os (frame-kept p c (s .objects) os keeps f (top-in .0)) (made-class (s .objects) (fresh p k)),
             top-in .1,
             frames-kept p c (s .objects) os keeps rest (top-in .2),
           );
-          objects = made-in p c (s .objects) (inside .objects) formed asked k (allowed .0);
+          objects = made-in p c (s .objects) (inside .objects) formed asked k (safe .0);
           statics = statics-kept os keeps;
           pending = tt;
         }
 
-    store-inside : (o x : ℕ) (v : Value) → Fitting p s f (Store o x v) → Allowed p c s f (Store o x v) → Inside p c (apply p s f rest (Store o x v))
-    store-inside o x v fits allowed =
+    store-inside : (o x : ℕ) (v : Value) → Fitting p s f (Store o x v) → SafeEffect p c s f (Store o x v) → Inside p c (apply p s f rest (Store o x v))
+    store-inside o x v fits safe =
         let os = set (s .objects) o (stored (objectAt s o) x v) in
         let keeps : Keeps (s .objects) os = stored-keeps (s .objects) o x v (fits .0) in
         record {
           frames = (
-            frame-kept p c (s .objects) os keeps (moved f (suc (f .address))) (allowed .2),
+            frame-kept p c (s .objects) os keeps (moved f (suc (f .address))) (safe .2),
             top-in .1,
             frames-kept p c (s .objects) os keeps rest (top-in .2),
           );
-          objects = stored-in p c (s .objects) (inside .objects) o x v (fits .0) (shaped .objects o (fits .0) .size) (allowed .0) (allowed .1);
+          objects = stored-in p c (s .objects) (inside .objects) o x v (fits .0) (shaped .objects o (fits .0) .size) (safe .0) (safe .1);
           statics = statics-kept os keeps;
           pending = tt;
         }
 
-    store-static-inside : (x : ℕ) (v : Value) → Fitting p s f (StoreStatic x v) → Allowed p c s f (StoreStatic x v) → Inside p c (apply p s f rest (StoreStatic x v))
-    store-static-inside x v fits allowed =
+    store-static-inside : (x : ℕ) (v : Value) → Fitting p s f (StoreStatic x v) → SafeEffect p c s f (StoreStatic x v) → Inside p c (apply p s f rest (StoreStatic x v))
+    store-static-inside x v fits safe =
         record {
-          frames = top-changed _ refl (allowed .1);
+          frames = top-changed _ refl (safe .1);
           objects = inside .objects;
           statics = λ y l.
-              set-lies p c (s .objects) (s .statics) x y v (staticOf y) (fits .0) (λ same. rw same (allowed .0))
+              set-lies p c (s .objects) (s .statics) x y v (staticOf y) (fits .0) (λ same. rw same (safe .0))
               (λ _. inside .statics y l);
           pending = tt;
         }
 
-    pub applied-inside : (effect : Effect) → Fitting p s f effect → Allowed p c s f effect → Inside p c (apply p s f rest effect)
-    applied-inside Next fits allowed = with-frames _ running (top-changed _ refl allowed) tt
-    applied-inside (Jump to) fits allowed = with-frames _ running (top-changed _ refl allowed) tt
-    applied-inside (Write a v) fits allowed = with-frames _ running (top-changed _ refl allowed) tt
-    applied-inside (Load a o x) fits allowed = with-frames _ running (top-changed _ refl allowed) tt
-    applied-inside (LoadStatic a x) fits allowed = with-frames _ running (top-changed _ refl allowed) tt
-    applied-inside (Make a k) fits allowed = make-inside a k allowed
-    applied-inside (Store o x v) fits allowed = store-inside o x v fits allowed
-    applied-inside (StoreStatic x v) fits allowed = store-static-inside x v fits allowed
-    applied-inside (Call m a) fits allowed = with-frames _ running (allowed .1, allowed .0, top-in) tt
-    applied-inside (Exit v) fits allowed = returned-inside (f .method) v allowed rest (top-in .1) (top-in .2)
-    applied-inside (Raise o) fits allowed = with-frames (s .frames) (raised o) (inside .frames) (rw e allowed)
-    applied-inside (Fail fault) fits allowed = with-frames (s .frames) (failed fault) (inside .frames) (rw e tt)
+    pub applied-inside : (effect : Effect) → Fitting p s f effect → SafeEffect p c s f effect → Inside p c (apply p s f rest effect)
+    applied-inside Next fits safe = with-frames _ running (top-changed _ refl safe) tt
+    applied-inside (Jump to) fits safe = with-frames _ running (top-changed _ refl safe) tt
+    applied-inside (Write a v) fits safe = with-frames _ running (top-changed _ refl safe) tt
+    applied-inside (Load a o x) fits safe = with-frames _ running (top-changed _ refl safe) tt
+    applied-inside (LoadStatic a x) fits safe = with-frames _ running (top-changed _ refl safe) tt
+    applied-inside (Make a k) fits safe = make-inside a k safe
+    applied-inside (Store o x v) fits safe = store-inside o x v fits safe
+    applied-inside (StoreStatic x v) fits safe = store-static-inside x v fits safe
+    applied-inside (Call m a) fits safe = with-frames _ running (safe .1, safe .0, top-in) tt
+    applied-inside (Exit v) fits safe = returned-inside (f .method) v safe rest (top-in .1) (top-in .2)
+    applied-inside (Raise o) fits safe = with-frames (s .frames) (raised o) (inside .frames) (rw e safe)
+    applied-inside (Fail fault) fits safe = with-frames (s .frames) (failed fault) (inside .frames) (rw e tt)
 
     module _ (o : ℕ) (l : o < length (s .objects)) (at : RaisedAt p c (f .method) (f .address) (objectAt s o .class)) where
       -- rule 10: with no handler the object's bit is in the method's mask

@@ -19,8 +19,9 @@ use Rattle.machine.proofs.Found.{first-some}
 use Rattle.machine.proofs.Fitting.{method-exists}
 use Rattle.flow.specs.Claim.{Claim}
 use Rattle.flow.specs.Flows.{Holds}
-use Rattle.flow.specs.Rules.{carried, answered, caught, uncaught, escaped, along}
-use Rattle.flow.specs.Inside.{Asked, CallAt, by-static, by-virtual, RaisedAt, by-throw, by-call}
+use Rattle.flow.specs.Rules.{carried, returnedInto, intoHandler, intoLeaving, leavingClasses, rulesOf}
+use Rattle.flow.specs.Calls.{CallAt, by-static, by-virtual}
+use Rattle.flow.specs.Inside.{Asked, RaisedAt, by-throw, by-call}
 use Rattle.flow.proofs.Decided.{next-inside}
 
 -- a class has only fields of the program
@@ -43,16 +44,16 @@ handler-exists p m pc k h e = handling-found p m pc k h (first (handlerCount p m
 pub record CallRules (p : Program) (c : Claim) (m pc q : ℕ) : Type 0 where
   pub goes : suc pc < codeLength p m
   pub carries : Holds c (carried p m pc (suc pc))
-  pub answers : Holds c (answered p m pc q)
-  pub catching : Holds c (escaped p m pc (caught p m pc) q)
-  pub leaves : Holds c (escaped p m pc (uncaught p m pc) q)
+  pub answers : Holds c (returnedInto p m pc q)
+  pub catching : Holds c (leavingClasses p m pc q (intoHandler p m pc))
+  pub leaves : Holds c (leavingClasses p m pc q (intoLeaving p m pc))
 
 module _ (p : Program) (c : Claim) (formed : Formed p) (asked : Asked p c) (m pc : ℕ) (l : pc < codeLength p m) where
   pub target-inside : (k h : ℕ) → handlerFor p m pc k ≡ Caught h → handlerTarget p m h < codeLength p m
   target-inside k h e = formed .methods m (method-exists p m pc l) .target h (handler-exists p m pc k h e)
 
   -- the rules of an instruction that is known
-  rules-of : (i : Instruction) → instructionAt p m pc ≡ i → Every (λ r. Holds c (r .flows)) (along p m pc i)
+  rules-of : (i : Instruction) → instructionAt p m pc ≡ i → Every (λ r. Holds c (r .flows)) (rulesOf p m pc i)
   rules-of i e = rw e at (asked m pc l .1 .1)
 
   goes-on : (i : Instruction) → instructionAt p m pc ≡ i → fallsThrough i ≡ true → suc pc < codeLength p m
@@ -79,6 +80,6 @@ module _ (p : Program) (c : Claim) (formed : Formed p) (asked : Asked p c) (m pc
       }
 
   -- rules 9 and 10 for an exception that may be pending
-  pub raised-rules : (k : ℕ) → k < classCount p → RaisedAt p c m pc k → Holds c (caught p m pc k) × Holds c (uncaught p m pc k)
+  pub raised-rules : (k : ℕ) → k < classCount p → RaisedAt p c m pc k → Holds c (intoHandler p m pc k) × Holds c (intoLeaving p m pc k)
   raised-rules k h (by-throw a e t i) = let w = rules-of (Throw a) e in (w .0 k h i t, w .1 .0 k h i t)
   raised-rules k h (by-call q at i) = let w = call-rules q at in (w .catching k h i, w .leaves k h i)

@@ -1,4 +1,4 @@
--- What an instruction decides at a frame in its masks is allowed, where the rules at its address hold: one lemma an instruction.
+-- What an instruction decides at a frame in its masks is safe, where the rules at its address hold: one lemma an instruction.
 -- Assumes nothing.
 use mathlib.Core.Path.{_≡_, refl}
 use mathlib.Core.Bool.{Bool, true, false}
@@ -36,8 +36,10 @@ use Rattle.machine.proofs.Found.{callee-fits}
 use Rattle.machine.proofs.Fitting.{method-exists}
 use Rattle.flow.specs.Claim.{Slot, registerAt, fieldOf, Claim, numberBit}
 use Rattle.flow.specs.Flows.{_⊆_, _&_, each, Holds}
-use Rattle.flow.specs.Rules.{onward, others, numbersInto, havers, castInto, parameter, passed, receivers, received}
-use Rattle.flow.specs.Inside.{Asked, by-virtual, by-throw, Lies, FrameIn, ObjectsIn, Allowed}
+use Rattle.flow.specs.Rules.{onward, onwardExcept, numbersInto, classesWithField, castInto, parameter, argumentInto, receivers, receiverInto}
+use Rattle.flow.specs.Calls.{by-virtual}
+use Rattle.flow.specs.Inside.{Asked, by-throw, Lies, FrameIn, ObjectsIn}
+use Rattle.flow.specs.Safe.{SafeEffect}
 use Rattle.flow.proofs.Frames.{lies-made, moved-in, wrote-in, entered-in}
 
 -- an instruction that falls through is not the last
@@ -61,59 +63,59 @@ module _ (p : Program) (c : Claim) (formed : Formed p) (asked : Asked p c) (s : 
   classed : (o : ℕ) (t : Slot) → Lies p c (s .objects) (Reference o) t → objectAt s o .class < classCount p
   classed o t h = objects o (lies-made p c (s .objects) o t h) .class-in
 
-  not-object : (z : ℤ) → Allowed p c s f (notObject z)
-  not-object z = pick-cases (Allowed p c s f) (isZero z) _ _ (λ _. tt) (λ _. tt)
+  not-object : (z : ℤ) → SafeEffect p c s f (notObject z)
+  not-object z = pick-cases (SafeEffect p c s f) (isZero z) _ _ (λ _. tt) (λ _. tt)
 
   -- what writes register a, where control goes on
   module _ (a : ℕ) (l : a < registers p (f .method)) (goes : suc (f .address) < codeLength p (f .method))
-      (w : Holds c (others p (f .method) (f .address) a (suc (f .address)))) where
+      (w : Holds c (onwardExcept p (f .method) (f .address) a (suc (f .address)))) where
     pub write : (v : Value) → Lies p c (s .objects) v (registerAt (f .method) (suc (f .address)) a) → FrameIn p c (s .objects) (wrote f a v)
     write v = wrote-in p c (s .objects) f here a v size goes l w
 
-    computed-allowed : (r : Computed) → Holds c (numbersInto p (f .method) (f .address) a) → Allowed p c s f (computedInto a r)
-    computed-allowed (Result z) x = write (Number z) (number-in c _ x z)
-    computed-allowed ByZero x = tt
+    computed-safe : (r : Computed) → Holds c (numbersInto p (f .method) (f .address) a) → SafeEffect p c s f (computedInto a r)
+    computed-safe (Result z) x = write (Number z) (number-in c _ x z)
+    computed-safe ByZero x = tt
 
-    pub binop-allowed : (o : Operation) (v u : Value) (t t′ : Slot) → Lies p c (s .objects) v t → Lies p c (s .objects) u t′
+    pub binop-safe : (o : Operation) (v u : Value) (t t′ : Slot) → Lies p c (s .objects) v t → Lies p c (s .objects) u t′
         → (hasNumber (c t) ≡ true → hasNumber (c t′) ≡ true → Holds c (numbersInto p (f .method) (f .address) a))
-        → Allowed p c s f (binop a o v u)
-    binop-allowed o (Number x) (Number y) t t′ h k g =
-        computed-allowed (computed o x y) (g (has-number (c t) (isZero x) h) (has-number (c t′) (isZero y) k))
-    binop-allowed o (Number x) (Reference q) t t′ h k g = tt
-    binop-allowed o (Reference q) (Number y) t t′ h k g = tt
-    binop-allowed o (Reference q) (Reference r) t t′ h k g = tt
+        → SafeEffect p c s f (binop a o v u)
+    binop-safe o (Number x) (Number y) t t′ h k g =
+        computed-safe (computed o x y) (g (has-number (c t) (isZero x) h) (has-number (c t′) (isZero y) k))
+    binop-safe o (Number x) (Reference q) t t′ h k g = tt
+    binop-safe o (Reference q) (Number y) t t′ h k g = tt
+    binop-safe o (Reference q) (Reference r) t t′ h k g = tt
 
-    pub unop-allowed : (o : Unary) (v : Value) (t : Slot) → Lies p c (s .objects) v t
-        → (hasNumber (c t) ≡ true → Holds c (numbersInto p (f .method) (f .address) a)) → Allowed p c s f (unop a o v)
-    unop-allowed o (Number x) t h g =
+    pub unop-safe : (o : Unary) (v : Value) (t : Slot) → Lies p c (s .objects) v t
+        → (hasNumber (c t) ≡ true → Holds c (numbersInto p (f .method) (f .address) a)) → SafeEffect p c s f (unop a o v)
+    unop-safe o (Number x) t h g =
         write (Number (unaryValue o x)) (number-in c _ (g (has-number (c t) (isZero x) h)) (unaryValue o x))
-    unop-allowed o (Reference q) t h g = tt
+    unop-safe o (Reference q) t h g = tt
 
-    pub get-allowed : (b x : ℕ) (v : Value) → Lies p c (s .objects) v (registerAt (f .method) (f .address) b)
-        → Holds c (havers p (f .method) (f .address) b x (λ k. fieldOf k x ⊆ registerAt (f .method) (suc (f .address)) a))
-        → Allowed p c s f (getField p (classOf s v) a x v)
-    get-allowed b x (Number z) h g = not-object z
-    get-allowed b x (Reference o) h g =
-        pick-cases (Allowed p c s f) (hasField p (objectAt s o .class) x) _ _
+    pub get-safe : (b x : ℕ) (v : Value) → Lies p c (s .objects) v (registerAt (f .method) (f .address) b)
+        → Holds c (classesWithField p (f .method) (f .address) b x (λ k. fieldOf k x ⊆ registerAt (f .method) (suc (f .address)) a))
+        → SafeEffect p c s f (getField p (classOf s v) a x v)
+    get-safe b x (Number z) h g = not-object z
+    get-safe b x (Reference o) h g =
+        pick-cases (SafeEffect p c s f) (hasField p (objectAt s o .class) x) _ _
         (λ t. write _ (g _ (classed o _ h) h t _ (objects o (lies-made p c (s .objects) o _ h) .masks .fields-in x t)))
         (λ _. tt)
 
-    pub instance-allowed : (k : ℕ) (v : Value) → Holds c (numbersInto p (f .method) (f .address) a) → Allowed p c s f (instanceOf p (classOf s v) a k v)
-    instance-allowed k (Number z) x =
-        pick-cases (Allowed p c s f) (isZero z) _ _ (λ _. write null (x .0)) (λ _. tt)
-    instance-allowed k (Reference o) x =
+    pub instance-safe : (k : ℕ) (v : Value) → Holds c (numbersInto p (f .method) (f .address) a) → SafeEffect p c s f (instanceOf p (classOf s v) a k v)
+    instance-safe k (Number z) x =
+        pick-cases (SafeEffect p c s f) (isZero z) _ _ (λ _. write null (x .0)) (λ _. tt)
+    instance-safe k (Reference o) x =
         write _
         (pick-cases (λ (v : Value). Lies p c (s .objects) v (registerAt (f .method) (suc (f .address)) a)) (below p (objectAt s o .class) k)
         (Number (pos 1)) null (λ _. x .1) (λ _. x .0))
 
-    pub cast-allowed : (k : ℕ) (v : Value) → Lies p c (s .objects) v (registerAt (f .method) (f .address) a)
-        → Holds c (castInto p (f .method) (f .address) a k) → Allowed p c s f (checkCast p (classOf s v) a k v)
-    cast-allowed k (Number z) h x =
-        pick-cases (Allowed p c s f) (isZero z) _ _
+    pub cast-safe : (k : ℕ) (v : Value) → Lies p c (s .objects) v (registerAt (f .method) (f .address) a)
+        → Holds c (castInto p (f .method) (f .address) a k) → SafeEffect p c s f (checkCast p (classOf s v) a k v)
+    cast-safe k (Number z) h x =
+        pick-cases (SafeEffect p c s f) (isZero z) _ _
         (λ t. write (Number z) (rw t (x .0 (rw t at h))))
         (λ _. tt)
-    cast-allowed k (Reference o) h x =
-        pick-cases (Allowed p c s f) (below p (objectAt s o .class) k) _ _
+    cast-safe k (Reference o) h x =
+        pick-cases (SafeEffect p c s f) (below p (objectAt s o .class) k) _ _
         (λ t. write (Reference o) (x .1 _ (classed o _ h) h t))
         (λ _. tt)
 
@@ -122,12 +124,12 @@ module _ (p : Program) (c : Claim) (formed : Formed p) (asked : Asked p c) (s : 
     pub on : FrameIn p c (s .objects) (moved f (suc (f .address)))
     on = moved-in p c (s .objects) f here (suc (f .address)) goes w
 
-    pub put-allowed : (a b x : ℕ) (v : Value) → a < registers p (f .method) → Lies p c (s .objects) v (registerAt (f .method) (f .address) b)
-        → Holds c (havers p (f .method) (f .address) b x (λ k. registerAt (f .method) (f .address) a ⊆ fieldOf k x))
-        → Allowed p c s f (putField p (classOf s v) x (register f a) v)
-    put-allowed a b x (Number z) l h g = not-object z
-    put-allowed a b x (Reference o) l h g =
-        pick-cases (Allowed p c s f) (hasField p (objectAt s o .class) x) _ _
+    pub put-safe : (a b x : ℕ) (v : Value) → a < registers p (f .method) → Lies p c (s .objects) v (registerAt (f .method) (f .address) b)
+        → Holds c (classesWithField p (f .method) (f .address) b x (λ k. registerAt (f .method) (f .address) a ⊆ fieldOf k x))
+        → SafeEffect p c s f (putField p (classOf s v) x (register f a) v)
+    put-safe a b x (Number z) l h g = not-object z
+    put-safe a b x (Reference o) l h g =
+        pick-cases (SafeEffect p c s f) (hasField p (objectAt s o .class) x) _ _
         (λ t. (t, g _ (classed o _ h) h t _ (here .masks .registers-in a l), on))
         (λ _. tt)
 
@@ -136,25 +138,25 @@ module _ (p : Program) (c : Claim) (formed : Formed p) (asked : Asked p c) (s : 
       jump : FrameIn p c (s .objects) (moved f d)
       jump = moved-in p c (s .objects) f here d l x
 
-      compared-allowed : (o : Condition) (same : Bool) → Allowed p c s f (compared o same d)
-      compared-allowed Eq same = pick-cases (Allowed p c s f) same _ _ (λ _. jump) (λ _. on)
-      compared-allowed Ne same = pick-cases (Allowed p c s f) same _ _ (λ _. on) (λ _. jump)
-      compared-allowed Lt same = tt
-      compared-allowed Ge same = tt
-      compared-allowed Gt same = tt
-      compared-allowed Le same = tt
+      compared-safe : (o : Condition) (same : Bool) → SafeEffect p c s f (compared o same d)
+      compared-safe Eq same = pick-cases (SafeEffect p c s f) same _ _ (λ _. jump) (λ _. on)
+      compared-safe Ne same = pick-cases (SafeEffect p c s f) same _ _ (λ _. on) (λ _. jump)
+      compared-safe Lt same = tt
+      compared-safe Ge same = tt
+      compared-safe Gt same = tt
+      compared-safe Le same = tt
 
-      pub branch-allowed : (o : Condition) (v u : Value) → Allowed p c s f (branch o v u d)
-      branch-allowed o (Number y) (Number z) = pick-cases (Allowed p c s f) (inOrder o y z) _ _ (λ _. jump) (λ _. on)
-      branch-allowed o (Number y) (Reference r) = compared-allowed o false
-      branch-allowed o (Reference q) (Number z) = compared-allowed o false
-      branch-allowed o (Reference q) (Reference r) = compared-allowed o (eqb q r)
+      pub branch-safe : (o : Condition) (v u : Value) → SafeEffect p c s f (branch o v u d)
+      branch-safe o (Number y) (Number z) = pick-cases (SafeEffect p c s f) (inOrder o y z) _ _ (λ _. jump) (λ _. on)
+      branch-safe o (Number y) (Reference r) = compared-safe o false
+      branch-safe o (Reference q) (Number z) = compared-safe o false
+      branch-safe o (Reference q) (Reference r) = compared-safe o (eqb q r)
 
-  pub throw-allowed : (a : ℕ) (v : Value) → instructionAt p (f .method) (f .address) ≡ Throw a
-      → Lies p c (s .objects) v (registerAt (f .method) (f .address) a) → Allowed p c s f (throw p (classOf s v) v)
-  throw-allowed a (Number z) e h = not-object z
-  throw-allowed a (Reference o) e h =
-      pick-cases (Allowed p c s f) (below p (objectAt s o .class) 1) _ _ (λ t. by-throw a e t h) (λ _. tt)
+  pub throw-safe : (a : ℕ) (v : Value) → instructionAt p (f .method) (f .address) ≡ Throw a
+      → Lies p c (s .objects) v (registerAt (f .method) (f .address) a) → SafeEffect p c s f (throw p (classOf s v) v)
+  throw-safe a (Number z) e h = not-object z
+  throw-safe a (Reference o) e h =
+      pick-cases (SafeEffect p c s f) (below p (objectAt s o .class) 1) _ _ (λ t. by-throw a e t h) (λ _. tt)
 
   -- the first frame of a callee
   pub enter : (q a : ℕ) → q < methodCount p
@@ -165,13 +167,13 @@ module _ (p : Program) (c : Claim) (formed : Formed p) (asked : Asked p c) (s : 
       entered-in p c (s .objects) q a f (method .code-from) (method .arguments-to)
       (asked q 0 (method .code-from) .1 .0 refl) args
 
-  -- an argument that is passed as it is
-  pub argument : (r q i : ℕ) → r + i < registers p (f .method) → Holds c (passed p (f .method) (f .address) r q i)
+  -- an argument that is argumentInto as it is
+  pub argument : (r q i : ℕ) → r + i < registers p (f .method) → Holds c (argumentInto p (f .method) (f .address) r q i)
       → Lies p c (s .objects) (register f (r + i)) (registerAt q 0 (parameter p q i))
   argument r q i l w = w _ (here .masks .registers-in (r + i) l)
 
   module _ (n b r : ℕ) (l : r + b ≤ registers p (f .method))
-      (w : Holds c (receivers p (f .method) (f .address) n b r (λ k q. received p (f .method) (f .address) k q & each (b - 1) (λ i. passed p (f .method) (f .address) r q (suc i))))) where
+      (w : Holds c (receivers p (f .method) (f .address) n b r (λ k q. receiverInto p (f .method) (f .address) k q & each (b - 1) (λ i. argumentInto p (f .method) (f .address) r q (suc i))))) where
     virtual-argument : (o q : ℕ) → register f r ≡ Reference o → Lies p c (s .objects) (Reference o) (registerAt (f .method) (f .address) r)
         → virtualCallee p (objectAt s o .class) n b ≡ Found q → (i : ℕ) → i < b
         → Lies p c (s .objects) (register f (r + i)) (registerAt q 0 (parameter p q i))
@@ -179,17 +181,17 @@ module _ (p : Program) (c : Claim) (formed : Formed p) (asked : Asked p c) (s : 
     virtual-argument o q e h found (suc i) k =
         argument r q (suc i) (omega arith) (w _ (classed o _ h) h q found .1 i (omega arith))
 
-    call-allowed : (o : ℕ) → instructionAt p (f .method) (f .address) ≡ InvokeVirtual n b r → register f r ≡ Reference o
+    call-safe : (o : ℕ) → instructionAt p (f .method) (f .address) ≡ InvokeVirtual n b r → register f r ≡ Reference o
         → Lies p c (s .objects) (Reference o) (registerAt (f .method) (f .address) r)
-        → (callee : Callee) → virtualCallee p (objectAt s o .class) n b ≡ callee → Allowed p c s f (callOf callee r)
-    call-allowed o i e h Missing found = tt
-    call-allowed o i e h (Found q) found =
+        → (callee : Callee) → virtualCallee p (objectAt s o .class) n b ≡ callee → SafeEffect p c s f (callOf callee r)
+    call-safe o i e h Missing found = tt
+    call-safe o i e h (Found q) found =
         let fits = callee-fits p n b q (objectAt s o .class) found in (
           by-virtual n b r (objectAt s o .class) i (classed o _ h) h found,
           enter q r (fits .0) (λ j k. virtual-argument o q e h found j (rw (fits .1) at k)),
         )
 
-    pub virtual-allowed : (v : Value) → instructionAt p (f .method) (f .address) ≡ InvokeVirtual n b r → register f r ≡ v
-        → Lies p c (s .objects) v (registerAt (f .method) (f .address) r) → Allowed p c s f (virtualCall p (classOf s v) n b r v)
-    virtual-allowed (Number z) i e h = not-object z
-    virtual-allowed (Reference o) i e h = call-allowed o i e h (virtualCallee p (objectAt s o .class) n b) refl
+    pub virtual-safe : (v : Value) → instructionAt p (f .method) (f .address) ≡ InvokeVirtual n b r → register f r ≡ v
+        → Lies p c (s .objects) v (registerAt (f .method) (f .address) r) → SafeEffect p c s f (virtualCall p (classOf s v) n b r v)
+    virtual-safe (Number z) i e h = not-object z
+    virtual-safe (Reference o) i e h = call-safe o i e h (virtualCallee p (objectAt s o .class) n b) refl

@@ -13,7 +13,7 @@ use Rattle.instruction.specs.Word.{instructionOf, fieldsOf, conditionOf, operat
 use Rattle.mask.specs.Mask.{has, subset, hasNumber}
 use Rattle.search.specs.Search.{belowIn, hasField, answers, methodIn, calleeIn, catches, handlerFor}
 use Rattle.reader.proofs.Examples.{sampleProgram}
-use Rattle.machine.proofs.Programs.{handler}
+use Rattle.machine.proofs.Programs.{handler, program}
 use Rattle.flow.specs.Claim.{Slot, registerAt, resultAt, fieldOf, staticOf, returnedBy, leaving}
 use Rattle.flow.specs.Verdict.{accepted, violated, verdict}
 use Rattle.flow.specs.Calls.{callList}
@@ -43,7 +43,7 @@ unasked : List Row
 unasked =
     -- a written register's old mask at next: zero, then 5, then zero
     row (doing (Const 0 (pos 5) ∷ Const 0 (pos 0) ∷ [])) (but (registerAt 0 1 0) nonzeros plain) accepted
-    -- null, numbers, and classes that lead elsewhere, of a receiver's parameter
+    -- of a receiver's parameter: null, numbers, and classes that lead elsewhere
     ∷ row (doing (InvokeVirtual 7 2 0 ∷ [])) (but (registerAt 1 0 1) 8 (but (registerAt 2 0 0) 16 full)) accepted
     -- a second handler that fits
     ∷ row (calling (Throw 0 ∷ ReturnVoid ∷ []) (handler 0 1 1 1 ∷ handler 0 1 2 1 ∷ []))
@@ -53,7 +53,7 @@ unasked =
     ∷ row (calling (InvokeStatic 3 1 0 ∷ []) (handler 0 1 1 0 ∷ []))
     (but (registerAt 0 0 1) zeros (but (registerAt 0 1 1) zeros full))
     accepted
-    -- the result before a throw, and classes not below Throwable, where it is handled and where it leaves
+    -- the result before a throw where it is handled; classes not at or below Throwable, there and where a throw leaves
     ∷ row (calling (Throw 0 ∷ []) (handler 0 1 1 0 ∷ [])) (but (resultAt 0 1) 6 full) accepted
     ∷ row (doing (Throw 0 ∷ [])) (but (leaving 0) 6 full) accepted
     -- numbers other than zero, and classes not at or below the cast's
@@ -112,13 +112,15 @@ broken =
     ∷ breaks 1 [] (registerAt 0 0 1) nonzeros
     ∷ breaks 1 [] (resultAt 0 0) nonzeros
     ∷ row (doing []) (but (registerAt 1 0 0) nonzeros full) (violated 1 1 0)
-    -- 2: a register, the result, another register than the written one, at the branch not taken, after a call
+    -- 2: a register, the result, another register than the written one, at the branch not taken, after a call, also one without a
+    -- callee
     ∷ breaks 2 (Nop ∷ []) (registerAt 0 1 1) zeros
     ∷ breaks 2 (Nop ∷ []) (resultAt 0 1) zeros
     ∷ breaks 2 (Const 0 (pos 5) ∷ []) (registerAt 0 1 1) zeros
     ∷ breaks 2 (IfZero Eq 0 0 ∷ []) (registerAt 0 1 0) zeros
     ∷ breaks 2 (InvokeStatic 3 1 0 ∷ []) (registerAt 0 1 0) zeros
     ∷ breaks 2 (InvokeVirtual 7 2 0 ∷ []) (registerAt 0 1 1) zeros
+    ∷ breaks 2 (InvokeVirtual 9 1 0 ∷ []) (registerAt 0 1 1) zeros
     -- 3: the result, a register
     ∷ breaks 3 (Goto 1 ∷ []) (resultAt 0 1) zeros
     ∷ breaks 3 (If Lt 0 1 2 ∷ Nop ∷ []) (registerAt 0 2 0) zeros
@@ -147,17 +149,22 @@ broken =
     ∷ breaks 6 (InvokeStatic 3 1 0 ∷ []) (registerAt 3 0 1) zeros
     ∷ breaks 6 (InvokeVirtual 7 2 0 ∷ []) (registerAt 2 0 0) 8
     ∷ breaks 6 (InvokeVirtual 7 2 0 ∷ []) (registerAt 1 0 2) zeros
+    -- each class that leads to a callee is asked of its parameter
+    ∷ row (program (InvokeVirtual 8 1 0 ∷ [])) (but (registerAt 3 0 0) 8 full) (violated 6 0 0)
     -- 7, 8: a virtual call, a return of a register
     ∷ breaks 7 (InvokeVirtual 7 2 0 ∷ []) (resultAt 0 1) zeros
     ∷ breaks 8 (Return 0 ∷ []) (returnedBy 0) zeros
-    -- 9: the result and a register where a throw is handled; the same of a static and a virtual call
+    -- 9: the result and a register where a throw is handled; the result where a static call's exception is, Throwable or not; a
+    -- register where a virtual call's is
     ∷ row (calling (Throw 0 ∷ []) (handler 0 1 1 2 ∷ [])) (but (resultAt 0 1) zeros full) (violated 9 0 0)
     ∷ row (calling (Throw 0 ∷ []) (handler 0 1 1 2 ∷ [])) (but (registerAt 0 1 1) zeros full) (violated 9 0 0)
     ∷ row (calling (InvokeStatic 3 1 0 ∷ Nop ∷ []) (handler 0 1 2 2 ∷ [])) (but (resultAt 0 2) zeros full) (violated 9 0 0)
+    ∷ row (calling (InvokeStatic 3 1 0 ∷ Nop ∷ []) (handler 0 1 2 0 ∷ [])) (but (resultAt 0 2) (zeros + 6) full) (violated 9 0 0)
     ∷ row (calling (InvokeVirtual 7 2 0 ∷ Nop ∷ []) (handler 0 1 2 2 ∷ [])) (but (registerAt 0 2 1) zeros full) (violated 9 0 0)
-    -- 10: what a throw lets leave; what leaves a callee, Throwable or not
+    -- 10: what a throw lets leave; what leaves a callee, though it is no Throwable, and where it is one
     ∷ breaks 10 (Throw 0 ∷ []) (leaving 0) 4
     ∷ breaks 10 (InvokeStatic 3 1 0 ∷ []) (leaving 0) 6
+    ∷ breaks 10 (InvokeStatic 3 1 0 ∷ []) (leaving 0) 25
     ∷ breaks 10 (InvokeVirtual 7 2 0 ∷ []) (leaving 0) 6
     -- class 1 breaks 10 and class 2 breaks 9: the lowest rule is reported
     ∷ row (calling (Throw 0 ∷ []) (handler 0 1 1 2 ∷ [])) (but (leaving 0) 0 (but (resultAt 0 1) zeros full)) (violated 9 0 0)
@@ -189,6 +196,11 @@ all-calls = refl
 one-class : callList allInstructions (but (registerAt 0 6 0) 16 full) ≡ made 0 6 2 ∷ made 0 12 3 ∷ []
 unfolding callList has instructionOf fieldsOf answers methodIn calleeIn
 one-class = refl
+
+-- a callee that two classes lead to stands once
+once : callList (program (InvokeVirtual 8 1 0 ∷ [])) full ≡ made 0 0 3 ∷ []
+unfolding callList has instructionOf fieldsOf answers methodIn calleeIn
+once = refl
 
 -- code that nothing reaches has its calls too
 unreached : callList (doing (Goto 2 ∷ InvokeStatic 3 1 0 ∷ [])) plain ≡ made 0 1 3 ∷ []

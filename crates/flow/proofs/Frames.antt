@@ -21,7 +21,7 @@ use Rattle.machine.specs.Run.{moved, wrote, entered}
 use Rattle.machine.proofs.Elements.{pick-cases}
 use Rattle.flow.specs.Claim.{Slot, registerAt, resultAt, fieldOf, Claim}
 use Rattle.flow.specs.Flows.{Holds}
-use Rattle.flow.specs.Rules.{entry, onward, others, parameter}
+use Rattle.flow.specs.Rules.{entry, onward, onwardExcept, parameter}
 use Rattle.flow.specs.Inside.{Lies, FrameIn, FramesIn, ObjectIn}
 
 -- every object is kept, of the same class
@@ -85,7 +85,7 @@ module _ (p : Program) (c : Claim) where
 
       -- rules 2 and 4: one on, with register a written
       pub wrote-in : (a : ℕ) (v : Value) → length (f .registers) ≡ registers p (f .method) → suc (f .address) < codeLength p (f .method)
-          → a < registers p (f .method) → Holds c (others p (f .method) (f .address) a (suc (f .address)))
+          → a < registers p (f .method) → Holds c (onwardExcept p (f .method) (f .address) a (suc (f .address)))
           → Lies p c os v (registerAt (f .method) (suc (f .address)) a) → FrameIn p c os (wrote f a v)
       wrote-in a v size l k w new =
           record {

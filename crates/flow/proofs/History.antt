@@ -24,12 +24,13 @@ use Rattle.machine.proofs.Continues.{At, handlingAt, Stepped, runs, unwinds, st
 use Rattle.machine.proofs.History.{Calling, Leaving, longer-step, call-made, call-none, leaving-made, leaving-none, not-raised, caught-stays}
 use Rattle.flow.specs.Claim.{leaving, Claim}
 use Rattle.flow.specs.Calls.{callList}
-use Rattle.flow.specs.Inside.{Asked, Lies, Allowed}
+use Rattle.flow.specs.Inside.{Asked, Lies}
+use Rattle.flow.specs.Safe.{SafeEffect}
 use Rattle.flow.proofs.Frames.{lies-kept}
 use Rattle.flow.proofs.Keeps.{step-keeps}
 use Rattle.flow.proofs.Applied.{leaves-in}
 use Rattle.flow.proofs.Listed.{listed}
-use Rattle.flow.proofs.Run.{allowed-at, pending-made, pending-at, run-inside}
+use Rattle.flow.proofs.Run.{safe-at, pending-made, pending-at, run-inside}
 
 -- ---- calls
 -- a step that adds a frame makes a call
@@ -45,11 +46,11 @@ module _ (p : Program) (c : Claim) (formed : Formed p) (asked : Asked p c) where
   called-in : (n : ℕ) (made : Calling p (run p n))
       → Listed (record { caller = made .frame .method; address = made .frame .address; callee = made .callee })
   called-in n made =
-      let allowed : Allowed p c (run p n) (made .frame) (Call (made .callee) (made .first)) =
-      rw (made .effect) at (allowed-at p c formed asked (run p n) (run-shaped p formed n) (run-inside p c formed asked n) (made .frame) (made .rest) (made .at)) in
+      let safe : SafeEffect p c (run p n) (made .frame) (Call (made .callee) (made .first)) =
+      rw (made .effect) at (safe-at p c formed asked (run p n) (run-shaped p formed n) (run-inside p c formed asked n) (made .frame) (made .rest) (made .at)) in
       listed p c (made .frame .method) (made .frame .address) (made .callee)
       (method-exists p (made .frame .method) (made .frame .address) (made .at .inside)) (made .at .inside)
-      (method-exists p (made .callee) 0 (allowed .1 .inside)) (allowed .0)
+      (method-exists p (made .callee) 0 (safe .1 .inside)) (safe .0)
 
   pub calls-in : (n : ℕ) → Every Listed (calls p n)
   unfolding calls

@@ -2,11 +2,13 @@
 pub mod Kept
 pub mod Rising
 pub mod Verdicts
+pub mod Exact
+pub mod Callees
 pub mod Ordered
 pub mod Listed
 pub mod Frames
 pub mod Decided
-pub mod Allowed
+pub mod Instructions
 pub mod Calls
 pub mod Objects
 pub mod Applied

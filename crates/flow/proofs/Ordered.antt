@@ -12,8 +12,9 @@ use Rattle.machine.specs.History.{Made}
 use Rattle.machine.proofs.Elements.{pick-cases}
 use Rattle.flow.specs.Claim.{Claim}
 use Rattle.flow.specs.Rules.{rulesAt}
-use Rattle.flow.specs.Verdict.{by-method, by-address, by-rule}
+use Rattle.flow.specs.Verdict.{by-first, by-second, by-third}
 use Rattle.flow.specs.Calls.{calledBy, callList, Earlier, Ordered, CalledIn}
+use Rattle.flow.proofs.Callees.{called-call}
 
 -- every call of one list comes before every call of the other
 abbrev Apart : List Made → List Made → Type 0
@@ -71,22 +72,22 @@ module _ (p : Program) (c : Claim) where
       ordered-joined (methodCount p) (calledAt m pc) (λ q _. called-ordered m pc q)
       (λ q q′ l.
       called-every m pc q _
-      (λ _. called-every m pc q′ _ (λ _. by-rule refl refl l)))
+      (λ _. called-every m pc q′ _ (λ _. by-third refl refl l)))
 
   method-ordered : (m : ℕ) → Ordered (inMethod m)
   method-ordered m =
       ordered-joined (codeLength p m) (atAddress m) (λ pc _. address-ordered m pc)
       (λ pc pc′ l.
-      apart _ _ (λ x y h k. by-address (cc) (omega (arith, h .1, k .1))) (atAddress m pc) (atAddress m pc′) (address-every m pc) (address-every m pc′))
+      apart _ _ (λ x y h k. by-second (cc) (omega (arith, h .1, k .1))) (atAddress m pc) (atAddress m pc′) (address-every m pc) (address-every m pc′))
 
   -- "in rising order, once each"
   pub list-ordered : Ordered (callList p c)
   unfolding callList
   list-ordered =
       ordered-joined (methodCount p) inMethod (λ m _. method-ordered m)
-      (λ m m′ l. apart _ _ (λ x y h k. by-method (omega (arith, h, k))) (inMethod m) (inMethod m′) (method-every m) (method-every m′))
+      (λ m m′ l. apart _ _ (λ x y h k. by-first (omega (arith, h, k))) (inMethod m) (inMethod m′) (method-every m) (method-every m′))
 
-  -- "the callees of rule 6", and nothing else
+  -- callees, and nothing else
   pub list-called : Every (CalledIn p c) (callList p c)
   unfolding callList
   list-called =
@@ -95,4 +96,4 @@ module _ (p : Program) (c : Claim) where
       every-joined (CalledIn p c) (codeLength p m) (atAddress m)
       (λ pc k.
       every-joined (CalledIn p c) (methodCount p) (calledAt m pc)
-      (λ q j. called-every m pc q (CalledIn p c) (λ t. record { caller-in = l; address-in = k; callee-in = j; called = t }))))
+      (λ q j. called-every m pc q (CalledIn p c) (λ t. record { caller-in = l; address-in = k; callee-in = j; called = called-call p c m pc q t }))))

@@ -7,7 +7,7 @@ use Rattle.instruction.specs.declared.Instruction.{Instruction}
 use Rattle.instruction.specs.declared.Instruction.the-variants.{Nop, Move, Const, Goto, If, IfZero, Binop, Unop, NewInstance, Iget, Iput, Sget, Sput, InvokeVirtual, InvokeStatic, MoveResult, MoveException, Return, ReturnVoid, Throw, InstanceOf, CheckCast}
 use Rattle.program.specs.Program.{Program, instructionAt}
 use Rattle.program.specs.Lists.{Every}
-use Rattle.flow.specs.Rules.{Rule, along, rulesAt}
+use Rattle.flow.specs.Rules.{Rule, rulesOf, rulesAt}
 
 -- the first number is at least this, and each other is greater than the one before
 abbrev pub Rising : ℕ → List Rule → Type 0
@@ -16,32 +16,32 @@ Rising least (r ∷ rs) = (least ≤ r .number) × Rising (suc (r .number)) rs
 
 -- rules 2 to 10 at an instruction
 module _ (p : Program) (m pc : ℕ) where
-  along-rising : (i : Instruction) → Rising 2 (along p m pc i)
-  along-rising Nop = omega arith
-  along-rising (Move a b) = omega arith
-  along-rising (Const a d) = omega arith
-  along-rising (Goto d) = omega arith
-  along-rising (If c a b d) = omega arith
-  along-rising (IfZero c a d) = omega arith
-  along-rising (Binop o a b c) = omega arith
-  along-rising (Unop o a b) = omega arith
-  along-rising (NewInstance a k) = omega arith
-  along-rising (Iget a b x) = omega arith
-  along-rising (Iput a b x) = omega arith
-  along-rising (Sget a x) = omega arith
-  along-rising (Sput a x) = omega arith
-  along-rising (InvokeVirtual n b c) = omega arith
-  along-rising (InvokeStatic q b c) = omega arith
-  along-rising (MoveResult a) = omega arith
-  along-rising (MoveException a) = omega arith
-  along-rising (Return a) = omega arith
-  along-rising ReturnVoid = omega arith
-  along-rising (Throw a) = omega arith
-  along-rising (InstanceOf a b k) = omega arith
-  along-rising (CheckCast a k) = omega arith
+  rules-of-rising : (i : Instruction) → Rising 2 (rulesOf p m pc i)
+  rules-of-rising Nop = omega arith
+  rules-of-rising (Move a b) = omega arith
+  rules-of-rising (Const a d) = omega arith
+  rules-of-rising (Goto d) = omega arith
+  rules-of-rising (If c a b d) = omega arith
+  rules-of-rising (IfZero c a d) = omega arith
+  rules-of-rising (Binop o a b c) = omega arith
+  rules-of-rising (Unop o a b) = omega arith
+  rules-of-rising (NewInstance a k) = omega arith
+  rules-of-rising (Iget a b x) = omega arith
+  rules-of-rising (Iput a b x) = omega arith
+  rules-of-rising (Sget a x) = omega arith
+  rules-of-rising (Sput a x) = omega arith
+  rules-of-rising (InvokeVirtual n b c) = omega arith
+  rules-of-rising (InvokeStatic q b c) = omega arith
+  rules-of-rising (MoveResult a) = omega arith
+  rules-of-rising (MoveException a) = omega arith
+  rules-of-rising (Return a) = omega arith
+  rules-of-rising ReturnVoid = omega arith
+  rules-of-rising (Throw a) = omega arith
+  rules-of-rising (InstanceOf a b k) = omega arith
+  rules-of-rising (CheckCast a k) = omega arith
 
   pub rules-rising : Rising 0 (rulesAt p m pc)
-  rules-rising = (omega arith, (omega arith, along-rising (instructionAt p m pc)))
+  rules-rising = (omega arith, (omega arith, rules-of-rising (instructionAt p m pc)))
 
 -- a number below the least one is no rule's: what is asked of the rules of that number holds
 pub below-least : (P : Rule → Type 0) (least n : ℕ) → n < least → (rs : List Rule) → Rising least rs → Every (λ r. r .number ≡ n → P r) rs

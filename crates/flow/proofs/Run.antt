@@ -15,8 +15,9 @@ use Rattle.machine.proofs.Fitting.{decided-fits, top-shaped}
 use Rattle.machine.proofs.ShapedRun.{run-shaped}
 use Rattle.machine.proofs.Continues.{At, effectAt, handlingAt, Stepped, runs, unwinds, stays, stepped}
 use Rattle.flow.specs.Claim.{registerAt, staticOf, Claim}
-use Rattle.flow.specs.Inside.{Asked, Lies, FramesIn, PendingIn, Inside, Allowed}
-use Rattle.flow.proofs.Allowed.{decided-allowed}
+use Rattle.flow.specs.Inside.{Asked, Lies, FramesIn, PendingIn, Inside}
+use Rattle.flow.specs.Safe.{SafeEffect}
+use Rattle.flow.proofs.Instructions.{decided-safe}
 use Rattle.flow.proofs.Applied.{applied-inside, unwound-inside}
 
 module _ (p : Program) (c : Claim) (formed : Formed p) (asked : Asked p c) where
@@ -45,10 +46,10 @@ module _ (p : Program) (c : Claim) (formed : Formed p) (asked : Asked p c) where
       }
 
   module _ (s : State) (shaped : Shaped p s) (inside : Inside p c s) where
-    pub allowed-at : (f : Frame) (rest : List Frame) → At p s running f rest → Allowed p c s f (effectAt p s f)
-    allowed-at f rest at =
+    pub safe-at : (f : Frame) (rest : List Frame) → At p s running f rest → SafeEffect p c s f (effectAt p s f)
+    safe-at f rest at =
         let frames : FramesIn p c (s .objects) (f ∷ rest) = rw (at .frames) at (inside .frames) in
-        decided-allowed p c formed asked s f (inside .objects) (inside .statics) (frames .0)
+        decided-safe p c formed asked s f (inside .objects) (inside .statics) (frames .0)
         (top-shaped p s shaped f rest (at .frames) .0 .size)
 
     -- the object that is pending has been made, and is one that rules 9 and 10 ask about
@@ -62,7 +63,7 @@ module _ (p : Program) (c : Claim) (formed : Formed p) (asked : Asked p c) where
     inside-by t (runs f rest at e) =
         rw e
         (applied-inside p c formed asked s shaped inside f rest (at .frames) (effectAt p s f)
-        (decided-fits p formed s shaped f rest (at .frames) (at .inside)) (allowed-at f rest at))
+        (decided-fits p formed s shaped f rest (at .frames) (at .inside)) (safe-at f rest at))
     inside-by t (unwinds f rest o at e) =
         rw e
         (unwound-inside p c formed asked s shaped inside f rest (at .frames) o (pending-made f rest o at) (pending-at f rest o at)

@@ -11,7 +11,7 @@ use Rattle.machine.proofs.Elements.{pick-cases}
 use Rattle.flow.specs.Claim.{Claim}
 use Rattle.flow.specs.Flows.{Holds, kept}
 use Rattle.flow.specs.Rules.{Rule, rulesAt, RuleHolds, RulesHold}
-use Rattle.flow.specs.Verdict.{Verdict, accepted, violated, orElse, firstOf, verdictOf, verdict, Before, by-method, by-address, by-rule, FirstBroken}
+use Rattle.flow.specs.Verdict.{Verdict, accepted, violated, orElse, firstOf, verdictOf, verdict, Before, by-first, by-second, by-third, FirstBroken}
 use Rattle.flow.proofs.Kept.{kept-holds, holds-kept}
 use Rattle.flow.proofs.Rising.{Rising, rules-rising, below-least}
 
@@ -152,10 +152,10 @@ module _ (p : Program) (c : Claim) where
       → pc′ < codeLength p m′
       → Before m′ pc′ n′ m pc n
       → RuleHolds p c n′ m′ pc′
-  before-holds n m pc methods addresses lower m′ pc′ n′ k (by-method l) = method-holds m′ (methods m′ l) pc′ n′ k
-  before-holds n m pc methods addresses lower m′ pc′ n′ k (by-address e l) =
+  before-holds n m pc methods addresses lower m′ pc′ n′ k (by-first l) = method-holds m′ (methods m′ l) pc′ n′ k
+  before-holds n m pc methods addresses lower m′ pc′ n′ k (by-second e l) =
       subst (λ i. RuleHolds p c n′ i pc′) (sym e) (address-holds m pc′ n′ (addresses pc′ l))
-  before-holds n m pc methods addresses lower m′ pc′ n′ k (by-rule e e′ l) =
+  before-holds n m pc methods addresses lower m′ pc′ n′ k (by-third e e′ l) =
       subst (λ i. RuleHolds p c n′ i pc′) (sym e) (subst (λ j. RuleHolds p c n′ m j) (sym e′) (lower n′ l))
 
   named-first : (n i j m pc : ℕ) → i < methodCount p → j < codeLength p i → AcceptedBelow inMethod i → AcceptedBelow (at i) j

@@ -5,10 +5,14 @@ use mathlib.Core.List.{List, [], _∷_}
 use Prim.Native.Nat.{ℕ, _<_}
 use lib.Dec.{eqb}
 use Rattle.instruction.specs.Word.{pick}
-use Rattle.program.specs.Program.{Program, methodCount, codeLength}
+use Rattle.instruction.specs.declared.Instruction.the-variants.{InvokeVirtual, InvokeStatic}
+use Rattle.mask.specs.Mask.{has}
+use Rattle.program.specs.Program.{Program, classCount, methodCount, codeLength, instructionAt}
 use Rattle.program.specs.Lists.{joined, Every}
+use Rattle.search.specs.declared.Callee.the-variants.{Found}
+use Rattle.search.specs.Search.{virtualCallee}
 use Rattle.machine.specs.History.{Made}
-use Rattle.flow.specs.Claim.{Claim}
+use Rattle.flow.specs.Claim.{registerAt, Claim}
 use Rattle.flow.specs.Flows.{names}
 use Rattle.flow.specs.Rules.{Rule, rulesAt}
 use Rattle.flow.specs.Verdict.{Before}
@@ -35,9 +39,16 @@ abbrev pub Ordered : List Made → Type 0
 Ordered [] = Unit {0}
 Ordered (x ∷ xs) = Every (Earlier x) xs × Ordered xs
 
--- a call at an address of the program, to a callee of rule 6 there
+-- method q is a callee of the instruction at address pc of method m: a static call's method, or the one that a class in the
+-- receiver's mask leads to
+pub data CallAt (p : Program) (c : Claim) (m pc q : ℕ) : Type 0 where
+  by-static : (b r : ℕ) → instructionAt p m pc ≡ InvokeStatic q b r → CallAt p c m pc q
+  by-virtual : (n b r k : ℕ) → instructionAt p m pc ≡ InvokeVirtual n b r → k < classCount p
+      → has (c (registerAt m pc r)) k ≡ true → virtualCallee p k n b ≡ Found q → CallAt p c m pc q
+
+-- a call at an address of the program to a callee there
 pub record CalledIn (p : Program) (c : Claim) (made : Made) : Type 0 where
   pub caller-in : made .caller < methodCount p
   pub address-in : made .address < codeLength p (made .caller)
   pub callee-in : made .callee < methodCount p
-  pub called : calledBy c (rulesAt p (made .caller) (made .address)) (made .callee) ≡ true
+  pub called : CallAt p c (made .caller) (made .address) (made .callee)

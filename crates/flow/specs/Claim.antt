@@ -27,11 +27,11 @@ pub data Slot : Type 0 where
 abbrev pub Claim : Type 0
 Claim = Slot → Mask
 
--- the bit of a number: "62 for number zero, 63 for other numbers"
+-- "62 for number zero, 63 for another number"
 abbrev pub numberBit : ℤ → ℕ
 numberBit z = pick (isZero z) zeroBit otherBit
 
--- the bit of a value, an object being one of these
+-- "its class's bit for an object", which is one of these
 abbrev pub bitOf : List Object → Value → ℕ
 bitOf objects (Number z) = numberBit z
 bitOf objects (Reference o) = getD objects o noObject .class

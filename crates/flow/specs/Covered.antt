@@ -32,7 +32,7 @@ module _ (p : Program) (c : Claim) where
     pub objects-in : Every (ObjectCovered (run p n .objects)) (run p n .objects)
     -- "a static has its own"
     pub statics-in : (x : ℕ) → x < p .statics → LiesIn (run p n .objects) (static (run p n) x) (c (staticOf x))
-    -- "every call made is in the list": each of the calls made in the first n steps
+    -- "A call is made by a step that adds a frame": each call made in the first n steps is in the list
     pub calls-in : Every (λ made. List·Memᴰ made list) (calls p n)
     -- "An exception leaves a method ..; that object's bit is then in the method's mask of kind `15`"
     pub leavings-in : Every (λ left. LiesIn (run p n .objects) (Reference (left .object)) (c (leaving (left .method)))) (leavings p n)

@@ -5,3 +5,4 @@ pub mod Verdict
 pub mod Calls
 pub mod Covered
 pub mod Inside
+pub mod Safe

@@ -1,7 +1,8 @@
 -- The flow rules: what is asked at each address, one clause an instruction. They follow source documents 002 (section 4, one
--- abstract object a class) and 004 (appendix E). Document 01 differs from both, and decides: registers, fields and statics start at
--- zero (rules 0 and 1); a sum has both numbers' bits; a receiver gives its callee only the class bit that leads there, and not its
--- mask; return-void returns zero; a cast lets on only what passes it; a fault raises no exception. Definitions only.
+-- abstract object a class) and 004 (section 4.2 and appendix E). Document 01 differs from them, and decides: registers, fields and
+-- statics start at zero (rules 0 and 1); binop and unop give both numbers' bits; a receiver gives its callee only the class bit that
+-- leads there, and not its mask; return-void returns zero; a cast lets on only what passes it; a fault raises no exception.
+-- Definitions only.
 use mathlib.Core.Path.{_≡_}
 use mathlib.Core.Bool.{not, _&&_}
 use mathlib.Core.List.{List, [], _∷_}
@@ -58,16 +59,16 @@ module _ (p : Program) (m pc : ℕ) where
   abbrev pub onward : ℕ → Flows
   onward to = carried to & resultAt m pc ⊆ resultAt m to
 
-  abbrev pub others : ℕ → ℕ → Flows
-  others a to =
+  abbrev pub onwardExcept : ℕ → ℕ → Flows
+  onwardExcept a to =
       each (registers p m) (λ r. when (not (eqb r a)) (here r ⊆ registerAt m to r)) & resultAt m pc ⊆ resultAt m to
 
   -- "2 next, 3 target: registers and result flow on"
-  abbrev pub goesOn : Rule
-  goesOn = rule 2 (onward next)
+  abbrev pub toNext : Rule
+  toNext = rule 2 (onward next)
 
-  abbrev pub jumps : ℕ → Rule
-  jumps to = rule 3 (onward to)
+  abbrev pub toTarget : ℕ → Rule
+  toTarget to = rule 3 (onward to)
 
   -- "after calls the result does not flow"
   abbrev pub afterCall : Rule
@@ -75,7 +76,7 @@ module _ (p : Program) (m pc : ℕ) where
 
   -- "except a written register"; "4: what is written goes into a at next"
   abbrev pub writes : ℕ → Flows → List Rule
-  writes a f = rule 2 (others a next) ∷ rule 4 f ∷ []
+  writes a f = rule 2 (onwardExcept a next) ∷ rule 4 f ∷ []
 
   -- both numbers' bits go into a at next
   abbrev pub numbersInto : ℕ → Flows
@@ -86,8 +87,8 @@ module _ (p : Program) (m pc : ℕ) where
   classesIn b f = each (classCount p) (λ k. given k (here b) (f k))
 
   -- each class in register b that has field x
-  abbrev pub havers : ℕ → ℕ → (ℕ → Flows) → Flows
-  havers b x f = classesIn b (λ k. when (hasField p k x) (f k))
+  abbrev pub classesWithField : ℕ → ℕ → (ℕ → Flows) → Flows
+  classesWithField b x f = classesIn b (λ k. when (hasField p k x) (f k))
 
   -- "bit 62 and classes at or below b, out of a": what passes a cast of register a to class k
   abbrev pub castInto : ℕ → ℕ → Flows
@@ -96,86 +97,87 @@ module _ (p : Program) (m pc : ℕ) where
       & classesIn a (λ j. when (below p j k) (j ∈ after a))
 
   -- "6: arguments into parameters at the callee's address 0": argument i of those in registers from c on
-  abbrev pub passed : ℕ → ℕ → ℕ → Flows
-  passed c q i = here (c + i) ⊆ registerAt q 0 (parameter p q i)
+  abbrev pub argumentInto : ℕ → ℕ → ℕ → Flows
+  argumentInto c q i = here (c + i) ⊆ registerAt q 0 (parameter p q i)
 
   -- "a virtual receiver gives only the class bit that leads there"
-  abbrev pub received : ℕ → ℕ → Flows
-  received k q = k ∈ registerAt q 0 (parameter p q 0)
+  abbrev pub receiverInto : ℕ → ℕ → Flows
+  receiverInto k q = k ∈ registerAt q 0 (parameter p q 0)
 
   -- each class in the receiver, register c, with the callee that it leads to
   abbrev pub receivers : ℕ → ℕ → ℕ → (ℕ → ℕ → Flows) → Flows
   receivers name b c f = classesIn c (λ k. found (virtualCallee p k name b) (f k))
 
   -- "7: callee's returned mask into the result at next"
-  abbrev pub answered : ℕ → Flows
-  answered q = returnedBy q ⊆ resultAt m next
+  abbrev pub returnedInto : ℕ → Flows
+  returnedInto q = returnedBy q ⊆ resultAt m next
 
   -- "with a handler (9), registers go into its target and the class bit into the target's result"
-  abbrev pub caught : ℕ → Flows
-  caught k = handled (handlerFor p m pc k) (λ h. carried (handlerTarget p m h) & k ∈ resultAt m (handlerTarget p m h))
+  abbrev pub intoHandler : ℕ → Flows
+  intoHandler k = handled (handlerFor p m pc k) (λ h. carried (handlerTarget p m h) & k ∈ resultAt m (handlerTarget p m h))
 
   -- "with none (10), the bit goes into the method's mask"
-  abbrev pub uncaught : ℕ → Flows
-  uncaught k = unhandled (handlerFor p m pc k) (k ∈ leaving m)
+  abbrev pub intoLeaving : ℕ → Flows
+  intoLeaving k = unhandled (handlerFor p m pc k) (k ∈ leaving m)
 
   -- "for each Throwable class in a throw's mask"
-  abbrev pub thrown : ℕ → (ℕ → Flows) → Flows
-  thrown a f = classesIn a (λ k. when (below p k 1) (f k))
+  abbrev pub thrownClasses : ℕ → (ℕ → Flows) → Flows
+  thrownClasses a f = classesIn a (λ k. when (below p k 1) (f k))
 
   -- "and each class leaving a callee"
-  abbrev pub escaped : (ℕ → Flows) → ℕ → Flows
-  escaped f q = each (classCount p) (λ k. given k (leaving q) (f k))
+  abbrev pub leavingClasses : ℕ → (ℕ → Flows) → Flows
+  leavingClasses q f = each (classCount p) (λ k. given k (leaving q) (f k))
 
   -- rules 2 to 10 at an instruction
-  abbrev pub along : Instruction → List Rule
-  along Nop = goesOn ∷ []
-  along (Move a b) = writes a (here b ⊆ after a)
-  along (Const a d) = writes a (numberBit d ∈ after a)
+  abbrev pub rulesOf : Instruction → List Rule
+  rulesOf Nop = toNext ∷ []
+  rulesOf (Move a b) = writes a (here b ⊆ after a)
+  rulesOf (Const a d) = writes a (numberBit d ∈ after a)
   -- "Goto has no next"
-  along (Goto d) = jumps d ∷ []
-  along (If c a b d) = goesOn ∷ jumps d ∷ []
-  along (IfZero c a d) = goesOn ∷ jumps d ∷ []
+  rulesOf (Goto d) = toTarget d ∷ []
+  rulesOf (If c a b d) = toNext ∷ toTarget d ∷ []
+  rulesOf (IfZero c a d) = toNext ∷ toTarget d ∷ []
   -- "binop and unop: bits 62 and 63 if every operand has one of them"
-  along (Binop o a b c) = writes a (numeric (here b) (numeric (here c) (numbersInto a)))
-  along (Unop o a b) = writes a (numeric (here b) (numbersInto a))
-  along (NewInstance a k) = writes a (k ∈ after a)
+  rulesOf (Binop o a b c) = writes a (numeric (here b) (numeric (here c) (numbersInto a)))
+  rulesOf (Unop o a b) = writes a (numeric (here b) (numbersInto a))
+  rulesOf (NewInstance a k) = writes a (k ∈ after a)
   -- "iget: the field's mask for each class in b that has it"
-  along (Iget a b x) = writes a (havers b x (λ k. fieldOf k x ⊆ after a))
+  rulesOf (Iget a b x) = writes a (classesWithField b x (λ k. fieldOf k x ⊆ after a))
   -- "5: iput into each such class's field; sput into the static"
-  along (Iput a b x) = goesOn ∷ rule 5 (havers b x (λ k. here a ⊆ fieldOf k x)) ∷ []
-  along (Sget a x) = writes a (staticOf x ⊆ after a)
-  along (Sput a x) = goesOn ∷ rule 5 (here a ⊆ staticOf x) ∷ []
-  along (InvokeVirtual n b c) =
+  rulesOf (Iput a b x) = toNext ∷ rule 5 (classesWithField b x (λ k. here a ⊆ fieldOf k x)) ∷ []
+  rulesOf (Sget a x) = writes a (staticOf x ⊆ after a)
+  rulesOf (Sput a x) = toNext ∷ rule 5 (here a ⊆ staticOf x) ∷ []
+  rulesOf (InvokeVirtual n b c) =
       afterCall
-      ∷ rule 6 (receivers n b c (λ k q. received k q & each (b - 1) (λ i. passed c q (suc i))))
-      ∷ rule 7 (receivers n b c (λ k. answered))
-      ∷ rule 9 (receivers n b c (λ k. escaped caught))
-      ∷ rule 10 (receivers n b c (λ k. escaped uncaught))
+      ∷ rule 6 (receivers n b c (λ k q. receiverInto k q & each (b - 1) (λ i. argumentInto c q (suc i))))
+      ∷ rule 7 (receivers n b c (λ k. returnedInto))
+      ∷ rule 9 (receivers n b c (λ k q. leavingClasses q intoHandler))
+      ∷ rule 10 (receivers n b c (λ k q. leavingClasses q intoLeaving))
       ∷ []
-  along (InvokeStatic q b c) =
+  rulesOf (InvokeStatic q b c) =
       afterCall
-      ∷ rule 6 (found (Found q) (λ q. each b (passed c q)))
-      ∷ rule 7 (answered q)
-      ∷ rule 9 (escaped caught q)
-      ∷ rule 10 (escaped uncaught q)
+      -- with its callee named as a virtual call's are, for the call list
+      ∷ rule 6 (found (Found q) (λ callee. each b (argumentInto c callee)))
+      ∷ rule 7 (returnedInto q)
+      ∷ rule 9 (leavingClasses q intoHandler)
+      ∷ rule 10 (leavingClasses q intoLeaving)
       ∷ []
-  along (MoveResult a) = writes a (resultAt m pc ⊆ after a)
-  along (MoveException a) = writes a (resultAt m pc ⊆ after a)
+  rulesOf (MoveResult a) = writes a (resultAt m pc ⊆ after a)
+  rulesOf (MoveException a) = writes a (resultAt m pc ⊆ after a)
   -- "8: return's mask, or bit 62 for return-void, into returned"; "return, return-void and throw have neither"
-  along (Return a) = rule 8 (here a ⊆ returnedBy m) ∷ []
-  along ReturnVoid = rule 8 (zeroBit ∈ returnedBy m) ∷ []
-  along (Throw a) = rule 9 (thrown a caught) ∷ rule 10 (thrown a uncaught) ∷ []
+  rulesOf (Return a) = rule 8 (here a ⊆ returnedBy m) ∷ []
+  rulesOf ReturnVoid = rule 8 (zeroBit ∈ returnedBy m) ∷ []
+  rulesOf (Throw a) = rule 9 (thrownClasses a intoHandler) ∷ rule 10 (thrownClasses a intoLeaving) ∷ []
   -- "instance-of: 62 and 63"
-  along (InstanceOf a b k) = writes a (numbersInto a)
-  along (CheckCast a k) = writes a (castInto a k)
+  rulesOf (InstanceOf a b k) = writes a (numbersInto a)
+  rulesOf (CheckCast a k) = writes a (castInto a k)
 
   -- "Rules, all asked at every address"; rule 0 is asked, and reported, at 00 00
   abbrev pub rulesAt : List Rule
   rulesAt =
       rule 0 (when (eqb m 0 && eqb pc 0) (initialMemory p))
       ∷ rule 1 (when (eqb pc 0) (entry p m))
-      ∷ along (instructionAt p m pc)
+      ∷ rulesOf (instructionAt p m pc)
 
 -- rule n holds at address pc of method m
 abbrev pub RuleHolds : Program → Claim → ℕ → ℕ → ℕ → Type 0

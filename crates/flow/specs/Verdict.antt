@@ -30,11 +30,11 @@ verdictOf c m pc (r ∷ rs) = pick (kept c (r .flows)) (verdictOf c m pc rs) (vi
 unfoldable pub verdict : Program → Claim → Verdict
 verdict p c = firstOf (methodCount p) (λ m. firstOf (codeLength p m) (λ pc. verdictOf c m pc (rulesAt p m pc)))
 
--- rule n at address pc of method m comes before rule n′ at address pc′ of method m′
+-- three numbers come before three others, where the first counts most
 pub data Before (m pc n m′ pc′ n′ : ℕ) : Type 0 where
-  by-method : m < m′ → Before m pc n m′ pc′ n′
-  by-address : m ≡ m′ → pc < pc′ → Before m pc n m′ pc′ n′
-  by-rule : m ≡ m′ → pc ≡ pc′ → n < n′ → Before m pc n m′ pc′ n′
+  by-first : m < m′ → Before m pc n m′ pc′ n′
+  by-second : m ≡ m′ → pc < pc′ → Before m pc n m′ pc′ n′
+  by-third : m ≡ m′ → pc ≡ pc′ → n < n′ → Before m pc n m′ pc′ n′
 
 -- what a violated verdict says: rule n is broken at address pc of method m, and all rules before it hold
 pub record FirstBroken (p : Program) (c : Claim) (n m pc : ℕ) : Type 0 where

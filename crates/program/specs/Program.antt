@@ -46,7 +46,7 @@ fieldClass p f = getD (p .fields) f 255
 abbrev pub methodAt : Program → ℕ → Method
 methodAt p m = getD (p .methods) m noMethod
 
--- "`04 c n k r a` method: class, name, kind (0 virtual, 1 static), r registers, a arguments"
+-- "`04 c n k r a` method: class, name, kind (0 virtual, 1 static), r registers .. a arguments"
 abbrev pub methodClass : Program → ℕ → ℕ
 methodClass p m = methodAt p m .header / 4294967296 % 256
 
