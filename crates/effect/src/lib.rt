@@ -5,18 +5,16 @@ use turn::Status;
 use turn::Tally;
 use turn::Turn;
 ghost use mathlib.Core.Path.{_≡_};
-ghost use mathlib.Core.List.{List};
-ghost use Prim.Native.Nat.{ℕ, _+_, _-_};
+ghost use Prim.Native.Nat.{_-_, _<_};
 ghost use lib.ListN.{getD};
-ghost use Rattle.program.specs.Program.{Program, registers, arguments};
+ghost use Rattle.program.specs.Program.{registers, arguments};
 ghost use Rattle.program.specs.Tables.{programIn};
-ghost use Rattle.machine.specs.declared.Effect.the-variants.{Make, Call};
+ghost use Rattle.machine.specs.declared.Value.the-variants.{Reference};
 ghost use Rattle.memory.specs.Memory.{valueWord, valueIn};
 ghost use Rattle.memory.specs.Writes.{framePlace};
 ghost use Rattle.turn.specs.declared.Turn.the-variants.{Went};
 ghost use Rattle.turn.specs.declared.Status.the-variants.{Running, Done};
-ghost use Rattle.turn.specs.Lies.{lent};
-ghost use Rattle.turn.specs.Applied.{following, resultWords, exitedWords, withStatus, leaving, Applied};
+ghost use Rattle.turn.specs.Applied.{madeWords, madeObjects, openedWords, following, resultWords, exitedWords, withStatus, madeTurn, calledTurn, leaving};
 
 // An object is made, and a register of frame `top` refers to it.
 pub fn make(
@@ -28,7 +26,10 @@ pub fn make(
     to: u8,
     class: u8,
 ) -> Turn
-    ensures turn { λ r. ⌜ ((p : Program) → (st : List ℕ) → Applied p (Make to class) top pc tally (lent (now (frames .entry)) (now (objects .entry)) st) r (lent (now (frames .exit)) (now (objects .exit)) st)) ⌝ }
+    ensures turn { λ r. ⌜ r ≡ madeTurn tally ⌝ }
+    ensures memory { λ r. ⌜ now (frames .exit) ≡ madeWords (now (frames .entry)) top pc to (tally .made) ⌝ }
+    ensures objects { λ r. ⌜ now (objects .exit) ≡ madeObjects (now (objects .entry)) (tally .made) class ⌝ }
+    ensures reads { λ r. ⌜ (tally .made < 256 → valueIn (valueWord (Reference (tally .made))) ≡ Reference (tally .made)) ⌝ }
 {
     if 256 <= tally.made {
         return Turn::Stopped(Halt::FullStore);
@@ -53,7 +54,8 @@ fn skipped(t: &[u64; 768], m: usize) -> u8
 
 // A frame of a method is opened on frame `top`; its arguments stand in registers from `first` on.
 pub fn call(t: &[u64; 768], frames: &mut [u64], top: u8, tally: Tally, m: usize, first: u8) -> Turn
-    ensures turn { λ r. ⌜ ((pc : ℕ) → (ob : List ℕ) → (st : List ℕ) → Applied (programIn (now (t .entry))) (Call m first) top pc tally (lent (now (frames .entry)) ob st) r (lent (now (frames .exit)) ob st)) ⌝ }
+    ensures turn { λ r. ⌜ r ≡ calledTurn tally ⌝ }
+    ensures memory { λ r. ⌜ now (frames .exit) ≡ openedWords (programIn (now (t .entry))) (now (frames .entry)) (tally .depth) top m first ⌝ }
 {
     if 32 <= tally.depth {
         return Turn::Stopped(Halt::FullStack);

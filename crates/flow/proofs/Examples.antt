@@ -43,8 +43,6 @@ unasked : List Row
 unasked =
     -- a written register's old mask at next: zero, then 5, then zero
     row (doing (Const 0 (pos 5) ∷ Const 0 (pos 0) ∷ [])) (but (registerAt 0 1 0) nonzeros plain) accepted
-    -- of a receiver's parameter: null, numbers, and classes that lead elsewhere
-    ∷ row (doing (InvokeVirtual 7 2 0 ∷ [])) (but (registerAt 1 0 1) 8 (but (registerAt 2 0 0) 16 full)) accepted
     -- a second handler that fits
     ∷ row (calling (Throw 0 ∷ ReturnVoid ∷ []) (handler 0 1 1 1 ∷ handler 0 1 2 1 ∷ []))
     (but (resultAt 0 2) 0 (but (registerAt 0 2 1) 0 full))
@@ -56,8 +54,6 @@ unasked =
     -- the result before a throw where it is handled; classes not at or below Throwable, there and where a throw leaves
     ∷ row (calling (Throw 0 ∷ []) (handler 0 1 1 0 ∷ [])) (but (resultAt 0 1) 6 full) accepted
     ∷ row (doing (Throw 0 ∷ [])) (but (leaving 0) 6 full) accepted
-    -- numbers other than zero, and classes not at or below the cast's
-    ∷ row (doing (CheckCast 0 3 ∷ [])) (but (registerAt 0 1 0) (zeros + 24) full) accepted
     -- numbers of a sum whose operand is an object
     ∷ row (doing (NewInstance 1 3 ∷ Binop Add 0 0 1 ∷ [])) (but (registerAt 0 1 1) 8 (but (registerAt 0 2 0) 0 full)) accepted
     -- the field of a class that the object's register does not have
@@ -78,7 +74,17 @@ unfolding unasked verdict has subset hasNumber instructionOf fieldsOf operationO
     catches handlerFor
 unasked-right = refl
 
--- the same of the result after a call
+-- the same of a cast: numbers other than zero, and classes not at or below the cast's
+cast-drops : verdict (doing (CheckCast 0 3 ∷ [])) (but (registerAt 0 1 0) (zeros + 24) full) ≡ accepted
+unfolding verdict has subset hasNumber instructionOf fieldsOf belowIn hasField handlerFor
+cast-drops = refl
+
+-- of a receiver's parameter: null, numbers, and classes that lead elsewhere
+receiver-drops : verdict (doing (InvokeVirtual 7 2 0 ∷ [])) (but (registerAt 1 0 1) 8 (but (registerAt 2 0 0) 16 full)) ≡ accepted
+unfolding verdict has subset hasNumber instructionOf fieldsOf belowIn hasField answers methodIn calleeIn catches handlerFor
+receiver-drops = refl
+
+-- and of the result after a call
 afterCalls : List Row
 afterCalls =
     -- the result before a call, static or virtual, at next

@@ -117,16 +117,16 @@ as-none (Raise o) t = absurd (miss others _ tt t)
 as-none (Fail e) t = absurd (miss others _ tt t)
 
 -- from the promise of `away`
-pub away-acts : (p : Program) (e : Effect) (top pc : ℕ) (m : Lent) (r : Act) → r ≡ awayAct e → Away e → Acting p e top pc m r m
-away-acts p Next top pc m r h k = absurd k
-away-acts p (Jump to) top pc m r h k = absurd k
-away-acts p (Write a v) top pc m r h k = absurd k
-away-acts p (Load a o x) top pc m r h k = absurd k
-away-acts p (LoadStatic a x) top pc m r h k = absurd k
-away-acts p (Make a c) top pc m r h k = absurd k
-away-acts p (Store o x v) top pc m r h k = absurd k
-away-acts p (StoreStatic x v) top pc m r h k = absurd k
-away-acts p (Call n c) top pc m r h k = rw h (refl, refl)
-away-acts p (Exit v) top pc m r h k = absurd k
-away-acts p (Raise o) top pc m r h k = rw h (refl, refl)
-away-acts p (Fail e) top pc m r h k = rw h (refl, refl)
+pub away-acts : (e : Effect) (top pc : ℕ) (m : Lent) (r : Act) → r ≡ awayAct e → Away e → Acting e top pc m r m
+away-acts Next top pc m r h k = absurd k
+away-acts (Jump to) top pc m r h k = absurd k
+away-acts (Write a v) top pc m r h k = absurd k
+away-acts (Load a o x) top pc m r h k = absurd k
+away-acts (LoadStatic a x) top pc m r h k = absurd k
+away-acts (Make a c) top pc m r h k = absurd k
+away-acts (Store o x v) top pc m r h k = absurd k
+away-acts (StoreStatic x v) top pc m r h k = absurd k
+away-acts (Call n c) top pc m r h k = rw h (record { act = refl; words = refl; reads = tt })
+away-acts (Exit v) top pc m r h k = absurd k
+away-acts (Raise o) top pc m r h k = rw h (record { act = refl; words = refl; reads = tt })
+away-acts (Fail e) top pc m r h k = rw h (record { act = refl; words = refl; reads = tt })

@@ -10,7 +10,6 @@ use Rattle.arithmetic.specs.declared.Computed.the-variants as computed
 use Rattle.arithmetic.specs.Arithmetic.{computed, inOrder}
 use Rattle.machine.specs.declared.Value.{Value}
 use Rattle.machine.specs.declared.Value.the-variants.{Number, Reference}
-use Rattle.machine.specs.declared.Effect.{Effect}
 use Rattle.machine.specs.declared.Effect.the-variants.{Next, Jump}
 use Rattle.machine.proofs.Elements.{pick-cases}
 use Rattle.machine.specs.Decide.{computedInto, binop, unop, compared, branch}

@@ -4,11 +4,11 @@ use turn::Act;
 ghost use mathlib.Core.List.{List};
 ghost use Prim.Native.Nat.{ℕ};
 ghost use Rattle.instruction.specs.declared.Instruction.the-variants.{Move, If, IfZero, Binop, Unop, MoveResult};
-ghost use Rattle.instruction.specs.Word.{conditionOf, operationOf, unaryOf, fieldsOf};
+ghost use Rattle.instruction.specs.Word.{conditionOf, operationOf, unaryOf};
 ghost use Rattle.program.specs.Program.{Program};
 ghost use Rattle.turn.specs.Lies.{lent};
 ghost use Rattle.turn.specs.Acts.{Performed};
-ghost use Rattle.local.specs.Local.{Local};
+ghost use Rattle.local.specs.Local.{localOf};
 
 // move: register `to` takes register `from`.
 fn copy(frames: &mut [u64], top: u8, pc: u8, to: u8, from: u8) -> Act
@@ -64,7 +64,7 @@ fn unop(frames: &mut [u64], top: u8, pc: u8, a: u8, b: u8, c: u8) -> Act
     settle::settle(frames, top, pc, e)
 }
 
-// The instruction of opcode o with the fields a, b, c and d, and d as a signed number, where that looks at no object and no
+// The instruction of opcode o with the fields a, b, c and d, and d as a signed number; nop where that looks at an object or a
 // static.
 pub fn by_fields(
     frames: &mut [u64],
@@ -77,7 +77,7 @@ pub fn by_fields(
     d: u32,
     value: i32,
 ) -> Act
-    ensures act { λ r. ⌜ ((p : Program) → (ob : List ℕ) → (st : List ℕ) → Local o → Performed p (fieldsOf o a b c d value) top pc (lent (now (frames .entry)) ob st) r (lent (now (frames .exit)) ob st)) ⌝ }
+    ensures act { λ r. ⌜ ((p : Program) → (ob : List ℕ) → (st : List ℕ) → Performed p (localOf o a b c d value) top pc (lent (now (frames .entry)) ob st) r (lent (now (frames .exit)) ob st)) ⌝ }
 {
     match o {
         1 => copy(frames, top, pc, a, b),

@@ -5,7 +5,6 @@ use Prim.Native.Nat.{ℕ, _+_}
 use denote.Enum.Declared.{tagOf}
 use types.Run.{OneOf, miss}
 use lib.ListN.{set}
-use Rattle.program.specs.Program.{Program}
 use Rattle.machine.specs.declared.Effect.{Effect}
 use Rattle.machine.specs.declared.Effect.the-variants.{Next, Jump, Write, Load, LoadStatic, Make, Store, StoreStatic, Call, Exit, Raise, Fail}
 use Rattle.machine.proofs.Effect.{the-type}
@@ -37,18 +36,18 @@ as-next (Raise o) ws top pc k = (refl, (refl, tt))
 as-next (Fail e) ws top pc k = absurd (miss rest _ tt k)
 
 -- from the promise of `settle`
-pub settled-acts : (p : Program) (e : Effect) (top pc : ℕ) (fr ob st us : List ℕ) (r : Act)
+pub settled-acts : (e : Effect) (top pc : ℕ) (fr ob st us : List ℕ) (r : Act)
     → (r ≡ settledAct pc e) × ((us ≡ settledWords fr top pc e) × ReadsBack e) → Settled e
-    → Acting p e top pc (lent fr ob st) r (lent us ob st)
-settled-acts p Next top pc fr ob st us r h k = rw (h .0, h .1 .0) (next-acts p top pc fr ob st)
-settled-acts p (Jump to) top pc fr ob st us r h k = rw (h .0, h .1 .0) (jump-acts p top pc fr ob st to)
-settled-acts p (Write a v) top pc fr ob st us r h k = rw (h .0, h .1 .0) (write-acts p top pc fr ob st a v (h .1 .1))
-settled-acts p (Load a o x) top pc fr ob st us r h k = absurd k
-settled-acts p (LoadStatic a x) top pc fr ob st us r h k = absurd k
-settled-acts p (Make a c) top pc fr ob st us r h k = absurd k
-settled-acts p (Store o x v) top pc fr ob st us r h k = absurd k
-settled-acts p (StoreStatic x v) top pc fr ob st us r h k = absurd k
-settled-acts p (Call m c) top pc fr ob st us r h k = absurd k
-settled-acts p (Exit v) top pc fr ob st us r h k = absurd k
-settled-acts p (Raise o) top pc fr ob st us r h k = absurd k
-settled-acts p (Fail e) top pc fr ob st us r h k = rw (h .0, h .1 .0) (refl, refl)
+    → Acting e top pc (lent fr ob st) r (lent us ob st)
+settled-acts Next top pc fr ob st us r h k = rw (h .0, h .1 .0) (next-acts top pc fr ob st)
+settled-acts (Jump to) top pc fr ob st us r h k = rw (h .0, h .1 .0) (jump-acts top pc fr ob st to)
+settled-acts (Write a v) top pc fr ob st us r h k = rw (h .0, h .1 .0) (write-acts top pc fr ob st a v (h .1 .1))
+settled-acts (Load a o x) top pc fr ob st us r h k = absurd k
+settled-acts (LoadStatic a x) top pc fr ob st us r h k = absurd k
+settled-acts (Make a c) top pc fr ob st us r h k = absurd k
+settled-acts (Store o x v) top pc fr ob st us r h k = absurd k
+settled-acts (StoreStatic x v) top pc fr ob st us r h k = absurd k
+settled-acts (Call m c) top pc fr ob st us r h k = absurd k
+settled-acts (Exit v) top pc fr ob st us r h k = absurd k
+settled-acts (Raise o) top pc fr ob st us r h k = absurd k
+settled-acts (Fail e) top pc fr ob st us r h k = rw (h .0, h .1 .0) (record { act = refl; words = refl; reads = tt })

@@ -11,6 +11,7 @@ use Rattle.text.proofs.Cases.{never}
 use Rattle.program.specs.Program.{Program, codeLength, instructionAt}
 use Rattle.reader.specs.Formed.{Formed}
 use Rattle.machine.specs.declared.Effect.{Effect}
+use Rattle.machine.specs.declared.Effect.the-variants as effects
 use Rattle.machine.specs.State.{Frame, State, running}
 use Rattle.machine.specs.Decide.{decide}
 use Rattle.machine.specs.Run.{step}
@@ -28,10 +29,10 @@ use Rattle.turn.specs.declared.Whereabouts.the-variants.{Inside}
 use Rattle.turn.specs.Stop.{stopOf}
 use Rattle.turn.specs.Lies.{statusOf, Lent, Turned}
 use Rattle.turn.specs.Applied.{whereIn, Applied}
-use Rattle.turn.specs.Acts.{Stands, Goes, effectOf, Leaves, Acting, Sees, Performed}
+use Rattle.turn.specs.Acts.{Stands, Goes, effectOf, Acting, Sees, Performed}
 use Rattle.turn.proofs.Act.{the-type}
 use Rattle.turn.proofs.Status as statuses
-use Rattle.turn.proofs.Acts.{stands-inside, stands-outside}
+use Rattle.turn.proofs.Acts.{stands-inside, stands-outside, acted-goes, acted-applied}
 use Rattle.turn.proofs.Executed.{seen, executed}
 use Rattle.turn.proofs.Steps.{found-in, running-outside}
 use Rattle.bounded.specs.Bounded.{continued, steps}
@@ -76,15 +77,24 @@ module _ (p : Program) (n left : ℕ) (s : State) (before : Lent) (t : Tally) (n
 abbrev pub others : List ℕ
 others = 1 ∷ 2 ∷ 3 ∷ 4 ∷ 5 ∷ []
 
+not-gone : {P : Type 0} (a : ℕ) (x : Act) → OneOf others (tagOf the-type x) → x ≡ Go a → P
+not-gone a x k e = absurd (miss others _ tt (rw e at k))
+
 -- they leave all to be done
-leaves : (p : Program) (e : Effect) (top pc : ℕ) (now after : Lent) (x : Act) → OneOf others (tagOf the-type x)
-    → Acting p e top pc now x after → Leaves e (effectOf x) now after
-leaves p e top pc now after (Go a) k h = absurd (miss others _ tt k)
-leaves p e top pc now after (Make a c) k h = h
-leaves p e top pc now after (Call m c) k h = h
-leaves p e top pc now after (Exit v) k h = h
-leaves p e top pc now after (Raise o) k h = h
-leaves p e top pc now after (Fail f) k h = h
+leaves : (e : Effect) (top pc : ℕ) (now after : Lent) (x : Act) → OneOf others (tagOf the-type x)
+    → Acting e top pc now x after → (e ≡ effectOf x) × (after ≡ now)
+leaves effects.Next top pc now after x k h = not-gone (pc + 1) x k (h .act)
+leaves (effects.Jump to) top pc now after x k h = not-gone to x k (h .act)
+leaves (effects.Write a v) top pc now after x k h = not-gone (pc + 1) x k (h .act)
+leaves (effects.Load a o y) top pc now after x k h = not-gone (pc + 1) x k (h .act)
+leaves (effects.LoadStatic a y) top pc now after x k h = not-gone (pc + 1) x k (h .act)
+leaves (effects.Make a c) top pc now after x k h = (rw (h .act), h .words)
+leaves (effects.Store o y v) top pc now after x k h = not-gone (pc + 1) x k (h .act)
+leaves (effects.StoreStatic y v) top pc now after x k h = not-gone (pc + 1) x k (h .act)
+leaves (effects.Call m c) top pc now after x k h = (rw (h .act), h .words)
+leaves (effects.Exit v) top pc now after x k h = (rw (h .act), h .words)
+leaves (effects.Raise o) top pc now after x k h = (rw (h .act), h .words)
+leaves (effects.Fail f) top pc now after x k h = (rw (h .act), h .words)
 
 pauses : (p : Program) (before : Lent) (t : Tally) (now : Lent) (s : State) (pc : ℕ) (x : Act) → OneOf others (tagOf the-type x)
     → Waits p before t now s pc x → Pausing p before t now s pc x
@@ -134,8 +144,9 @@ module _ (p : Program) (n left : ℕ) (s : State) (before : Lent) (t : Tally) (n
   pub went : Formed p → 0 < left → pc < codeLength p m → (a : ℕ) (after : Lent) → Performed p (instructionAt p m pc) top pc now (Go a) after
       → Going p n (left - 1) s before t after × Stands top m a (after .frames)
   went formed more l a after performed =
-      let moves : Goes top a (now .frames) (after .frames) = looked formed l (λ y f sees. performed y f sees .1) in (
-        goes-on p n left s before t now g formed more t after (turned formed l (Went t) after (λ y f sees. performed y f sees .0 t)),
+      let moves : Goes top a (now .frames) (after .frames) = looked formed l (λ y f sees. acted-goes top pc (now .frames) (now .objects) (now .statics) (decide p y f (instructionAt p m pc)) a after (performed y f sees)) in (
+        goes-on p n left s before t now g formed more t after (turned formed l (Went t) after
+            (λ y f sees. acted-applied top pc (now .frames) (now .objects) (now .statics) p (decide p y f (instructionAt p m pc)) a after (performed y f sees) t)),
         record { method = moves .method ∙ at .method; address = moves .address held },
       )
 
@@ -151,8 +162,8 @@ module _ (p : Program) (n left : ℕ) (s : State) (before : Lent) (t : Tally) (n
       → Performed p (instructionAt p m pc) top pc now x after → (after ≡ now) × Pausing p before t now (g .state) pc x
   paused-by formed l x after k performed =
       let rests : (y : State) (f : Frame) → Sees (instructionAt p m pc) top now y f
-      → Leaves (decide p y f (instructionAt p m pc)) (effectOf x) now after =
-      λ y f sees. leaves p (decide p y f (instructionAt p m pc)) top pc now after x k (performed y f sees) in (
+      → (decide p y f (instructionAt p m pc) ≡ effectOf x) × (after ≡ now) =
+      λ y f sees. leaves (decide p y f (instructionAt p m pc)) top pc now after x k (performed y f sees) in (
         looked formed l (λ y f sees. rests y f sees .1),
         pauses p before t now (g .state) pc x k (waits formed l x (λ y f sees. rests y f sees .0)),
       )

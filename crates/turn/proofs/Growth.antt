@@ -1,7 +1,8 @@
 -- Effects that make an object, open or leave a frame, or change the status, in memory. Assumes nothing.
 use mathlib.Core.Path.{_≡_, refl, sym, ap, _∙_}
 use mathlib.Core.List.{List, [], _∷_, _++_}
-use Prim.Native.Nat.{ℕ, _+_, _-_, _≤_, _<_}
+use Prim.Native.Nat.{ℕ, _+_, _≤_, _<_}
+use native.Mathlib.Decide.{decLt}
 use native.Mathlib.Omega.{arith}
 use lib.ListN.{length, set, length-append}
 use borrow.Author.Tests.{lt-ltb, le-ltb}
@@ -20,7 +21,7 @@ use Rattle.turn.specs.declared.Turn.the-variants.{Went, Stopped}
 use Rattle.turn.specs.declared.Halt.the-variants.{FullStore, FullStack}
 use Rattle.turn.specs.declared.Status.the-variants.{Raised, Failed}
 use Rattle.turn.specs.Lies.{lent}
-use Rattle.turn.specs.Applied.{wroteWords, calledWords, withStatus, oneMade, oneOpen, Applied}
+use Rattle.turn.specs.Applied.{wroteWords, madeWords, madeObjects, calledWords, openedWords, withStatus, oneMade, oneOpen, madeTurn, calledTurn, Applied}
 use Rattle.turn.proofs.Top.{entered-frames}
 use Rattle.turn.proofs.Objects.{object-made}
 use Rattle.turn.proofs.Effects.{held, registers-few, frames-lie, few-registers, wrote-lies}
@@ -28,7 +29,7 @@ use Rattle.turn.proofs.Effects.{held, registers-few, frames-lie, few-re
 module _ (p : Program) (top pc : ℕ) (t : Tally) (fr ob st : List ℕ) where
   -- ---- new-instance
 
-  pub make-turned : (a k : ℕ) → t .made < 256 → valueIn (valueWord (Reference (t .made))) ≡ Reference (t .made)
+  make-turned : (a k : ℕ) → t .made < 256 → valueIn (valueWord (Reference (t .made))) ≡ Reference (t .made)
       → Applied p (Make a k) top pc t (lent fr ob st) (Went (oneMade t))
       (lent (wroteWords fr top pc a (Reference (t .made))) (set ob (objectPlace (t .made) 0) k) st)
   make-turned a k l r s f rest before h =
@@ -51,13 +52,21 @@ module _ (p : Program) (top pc : ℕ) (t : Tally) (fr ob st : List ℕ) where
       )
 
   -- "20: new-instance at 256 objects": the step is not made
-  pub make-full : (a k : ℕ) → 256 ≤ t .made → Applied p (Make a k) top pc t (lent fr ob st) (Stopped FullStore) (lent fr ob st)
+  make-full : (a k : ℕ) → 256 ≤ t .made → Applied p (Make a k) top pc t (lent fr ob st) (Stopped FullStore) (lent fr ob st)
   make-full a k l s f rest before h =
       (rw (le-ltb (length (s .objects)) 256 (omega (arith, h .lies .made, l))), h .lies)
 
+  pub made-applied : (a k : ℕ) → (t .made < 256 → valueIn (valueWord (Reference (t .made))) ≡ Reference (t .made))
+      → Applied p (Make a k) top pc t (lent fr ob st) (madeTurn t) (lent (madeWords fr top pc a (t .made)) (madeObjects ob (t .made) k) st)
+  made-applied a k r =
+      elim (decLt (t .made) 256) [
+        | yes l ↦ rw (lt-ltb (t .made) 256 l) (make-turned a k l (r l))
+        | no l ↦ rw (le-ltb (t .made) 256 (omega arith)) (make-full a k (omega arith))
+      ]
+
   -- ---- calls
 
-  pub call-turned : (m c : ℕ) → t .depth < 32
+  call-turned : (m c : ℕ) → t .depth < 32
       → Applied p (Call m c) top pc t (lent fr ob st) (Went (oneOpen t)) (lent (calledWords p fr top m c) ob st)
   call-turned m c l s f rest before h =
       let deep : t .depth ≡ length (f ∷ rest) = h .lies .depth ∙ ap length (h .frames) in
@@ -82,8 +91,16 @@ module _ (p : Program) (top pc : ℕ) (t : Tally) (fr ob st : List ℕ) where
       )
 
   -- "21: a call without fault at 32 frames": the step is not made
-  pub call-full : (m c : ℕ) → 32 ≤ t .depth → Applied p (Call m c) top pc t (lent fr ob st) (Stopped FullStack) (lent fr ob st)
+  call-full : (m c : ℕ) → 32 ≤ t .depth → Applied p (Call m c) top pc t (lent fr ob st) (Stopped FullStack) (lent fr ob st)
   call-full m c l s f rest before h = (rw (le-ltb (length (s .frames)) 32 (omega (arith, h .lies .depth, l))), h .lies)
+
+  pub called-applied : (m c : ℕ)
+      → Applied p (Call m c) top pc t (lent fr ob st) (calledTurn t) (lent (openedWords p fr (t .depth) top m c) ob st)
+  called-applied m c =
+      elim (decLt (t .depth) 32) [
+        | yes l ↦ rw (lt-ltb (t .depth) 32 l) (call-turned m c l)
+        | no l ↦ rw (le-ltb (t .depth) 32 (omega arith)) (call-full m c (omega arith))
+      ]
 
   -- ---- the status alone
 

@@ -10,4 +10,5 @@ pub mod Steps
 pub mod Slots
 pub mod Executed
 pub mod Acts
+pub mod One
 pub mod Laid

@@ -9,16 +9,19 @@ use Rattle.instruction.specs.Word.{pick}
 use Rattle.program.specs.Program.{Program, registers, arguments, codeLength}
 use Rattle.reader.specs.Formed.{Formed}
 use Rattle.machine.specs.declared.Value.{Value}
+use Rattle.machine.specs.declared.Value.the-variants.{Reference}
 use Rattle.machine.specs.declared.Effect.{Effect}
 use Rattle.machine.specs.State.{Frame, Status, running, State}
 use Rattle.machine.specs.Run.{apply, step}
 use Rattle.machine.specs.Shaped.{Shaped, Fitting}
 use Rattle.memory.specs.Memory.{valueWord}
-use Rattle.memory.specs.Writes.{framePlace, cleared, copied}
+use Rattle.memory.specs.Writes.{framePlace, objectPlace, cleared, copied}
 use Rattle.turn.specs.declared.Status as code
 use Rattle.turn.specs.declared.Status.the-variants.{Running}
 use Rattle.turn.specs.declared.Tally.{Tally}
 use Rattle.turn.specs.declared.Turn.{Turn}
+use Rattle.turn.specs.declared.Turn.the-variants.{Went, Stopped}
+use Rattle.turn.specs.declared.Halt.the-variants.{FullStore, FullStack}
 use Rattle.turn.specs.declared.Whereabouts.{Whereabouts}
 use Rattle.turn.specs.declared.Whereabouts.the-variants.{Inside, Outside}
 use Rattle.turn.specs.Stop.{room, stopOf}
@@ -30,6 +33,14 @@ use Rattle.turn.specs.Lies.{Lent, Lies, Turned}
 abbrev pub wroteWords : List ℕ → ℕ → ℕ → ℕ → Value → List ℕ
 wroteWords ws top pc a v = set (set ws (framePlace top (2 + (a + 1))) (valueWord v)) (framePlace top 1) (pc + 1)
 
+-- register a of frame top refers to a new object n, unless 256 are made
+abbrev pub madeWords : List ℕ → ℕ → ℕ → ℕ → ℕ → List ℕ
+madeWords ws top pc a n = pick (ltb n 256) (wroteWords ws top pc a (Reference n)) ws
+
+-- the new object n is of class k, unless 256 are made
+abbrev pub madeObjects : List ℕ → ℕ → ℕ → List ℕ
+madeObjects ws n k = pick (ltb n 256) (set ws (objectPlace n 0) k) ws
+
 -- frame top + 1 is opened for method m
 abbrev pub calledWords : Program → List ℕ → ℕ → ℕ → ℕ → List ℕ
 calledWords p ws top m c =
@@ -37,6 +48,10 @@ calledWords p ws top m c =
     (copied (arguments p m) ws (framePlace top (3 + c)) (framePlace (top + 1) (3 + (registers p m - arguments p m))))
     (framePlace (top + 1) 0)
     m
+
+-- the same, unless 32 frames are open
+abbrev pub openedWords : Program → List ℕ → ℕ → ℕ → ℕ → ℕ → List ℕ
+openedWords p ws depth top m c = pick (ltb depth 32) (calledWords p ws top m c) ws
 
 -- the address after a call, which lies below 32
 abbrev pub following : ℕ → ℕ
@@ -64,6 +79,14 @@ oneMade t = record { depth = t .depth; made = t .made + 1; status = Running }
 
 abbrev pub oneOpen : Tally → Tally
 oneOpen t = record { depth = t .depth + 1; made = t .made; status = Running }
+
+-- an object is made, unless 256 are
+abbrev pub madeTurn : Tally → Turn
+madeTurn t = pick (ltb (t .made) 256) (Went (oneMade t)) (Stopped FullStore)
+
+-- a frame is opened, unless 32 are
+abbrev pub calledTurn : Tally → Turn
+calledTurn t = pick (ltb (t .depth) 32) (Went (oneOpen t)) (Stopped FullStack)
 
 -- top frames are left, with one status if none is left and another if some are
 abbrev pub leaving : Tally → ℕ → code.Status → code.Status → Tally

@@ -2,7 +2,7 @@
 use mathlib.Core.Path.{_≡_}
 use Prim.Native.Nat.{_+_, _-_}
 use Rattle.turn.specs.Lies.{lent}
-use Rattle.turn.proofs.Growth.{raise-turned, fail-turned}
+use Rattle.turn.proofs.Growth.{made-applied, called-applied, raise-turned, fail-turned}
 use Rattle.turn.proofs.Leave.{exit-turned}
 use Rattle.advance.proofs.Turned.{outside-turned, empty-turned}
 use native.Mathlib.Omega.{arith}
@@ -61,7 +61,8 @@ returns-3 : tie.Need-returns-3
 returns-3 c =
     λ s before st lies run h.
     let deep : c .before .before .before .before .before .before .before .before .before .before .before .before .before .before .before .args .tally .depth ≡ c .before .before .before .before .before .before .before .before .before .before .before .before .before .before .before .args .tally .depth - 1 + 1 = omega (arith, c .before .before .before .before .before .before .before .before .before .before .before .if1 .left) in
-    (rw (c .before .before .before .before .before .before .before .before .act2 .given .1) at h) _ deep (c .before .before .before .before .make .result) (lent (c .before .before .before .before .make .last .0) (c .before .before .before .before .make .last .1 .0) st) (c .before .before .before .before .make .ensures _ st)
+    (rw (c .before .before .before .before .before .before .before .before .act2 .given .1) at h) _ deep (c .before .before .before .before .make .result) (lent (c .before .before .before .before .make .last .0) (c .before .before .before .before .make .last .1 .0) st)
+    (rw (c .before .before .before .before .make .ensures .0, c .before .before .before .before .make .ensures .1 .0, c .before .before .before .before .make .ensures .1 .1 .0) (made-applied _ _ _ _ _ _ st _ _ (c .before .before .before .before .make .ensures .1 .1 .1)))
 
 same-length-3 : tie.Need-same-length-3
 same-length-3 c = c .before .before .call .kept .1 .0
@@ -70,7 +71,8 @@ returns-4 : tie.Need-returns-4
 returns-4 c =
     λ s before st lies run h.
     let deep : c .before .before .before .before .before .before .before .before .before .before .before .before .args .tally .depth ≡ c .before .before .before .before .before .before .before .before .before .before .before .before .args .tally .depth - 1 + 1 = omega (arith, c .before .before .before .before .before .before .before .before .if1 .left) in
-    (rw (c .before .before .before .before .before .act3 .given .1) at h) _ deep (c .before .before .call .result) (lent (c .before .before .call .last .1 .0) (c .before .before .before .before .before .before .before .before .before .before .before .before .args .objects .now) st) (c .before .before .call .ensures _ _ st)
+    (rw (c .before .before .before .before .before .act3 .given .1) at h) _ deep (c .before .before .call .result) (lent (c .before .before .call .last .1 .0) (c .before .before .before .before .before .before .before .before .before .before .before .before .args .objects .now) st)
+    (rw (c .before .before .call .ensures .0, c .before .before .call .ensures .1) (called-applied _ _ _ _ _ _ st _ _))
 
 same-length-4 : tie.Need-same-length-4
 same-length-4 c = c .before .before .leave .kept .0

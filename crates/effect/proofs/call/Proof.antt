@@ -1,11 +1,12 @@
 -- `effect::call` meets its contract. Assumes nothing.
+use mathlib.Core.Path.{refl}
 use native.Mathlib.Omega.{arith}
-use Rattle.turn.proofs.Growth.{call-turned, call-full}
+use borrow.Author.Tests.{lt-ltb, le-ltb}
 use Rattle.effect.proofs.call.Statement.{statement}
 use Rattle.effect.proofs.call.Tie as tie
 
 returns : tie.Need-returns
-returns c = λ pc ob st. call-full _ _ pc _ _ ob st _ _ (c .if1 .taken)
+returns c = rw (le-ltb (c .before .before .before .args .tally .depth) 32 (omega arith)) (refl, refl)
 
 skipped-requires : tie.Need-skipped-requires
 skipped-requires c κs = tt
@@ -26,8 +27,9 @@ same-length : tie.Need-same-length
 same-length c = c .before .before .before .push .kept .0
 
 returns-2 : tie.Need-returns-2
-returns-2 c = λ pc ob st. rw (c .before .before .before .push .ensures, c .before .before .before .before .before .before .skipped .ensures, c .before .before .before .before .before .arguments .ensures)
-    (call-turned _ _ pc (c .before .before .before .before .before .before .before .before .before .before .args .tally) _ ob st _ _ (omega arith))
+returns-2 c =
+    rw (lt-ltb (c .before .before .before .before .before .before .before .before .before .before .args .tally .depth) 32 (omega arith), c .before .before .before .push .ensures, c .before .before .before .before .before .before .skipped .ensures, c .before .before .before .before .before .arguments .ensures)
+    (refl, refl)
 
 pub call-spec : {M : Type 1} → statement M
 call-spec =

@@ -1,11 +1,12 @@
 -- `effect::make` meets its contract. Assumes nothing.
-use Rattle.turn.proofs.Growth.{make-turned, make-full}
+use mathlib.Core.Path.{refl}
 use native.Mathlib.Omega.{arith}
+use borrow.Author.Tests.{lt-ltb, le-ltb}
 use Rattle.effect.proofs.make.Statement.{statement}
 use Rattle.effect.proofs.make.Tie as tie
 
 returns : tie.Need-returns
-returns c = λ p st. make-full p _ _ _ _ _ st _ _ (c .if1 .taken)
+returns c = rw (le-ltb (c .before .before .before .before .args .tally .made) 256 (omega arith)) (refl, (refl, (refl, λ l. absurd (omega (arith, l)))))
 
 make-requires : tie.Need-make-requires
 make-requires c κs = tt
@@ -24,8 +25,8 @@ same-length-2 c = c .before .before .before .before .before .before .before .mak
 
 returns-2 : tie.Need-returns-2
 returns-2 c =
-    λ p st. rw (c .before .before .before .write .ensures .1 .0, c .before .before .before .before .before .before .before .make .ensures)
-    (make-turned p _ _ (c .before .before .before .before .before .before .before .before .before .before .before .before .before .args .tally) _ _ st _ _ (omega arith) (c .before .before .before .write .ensures .1 .1))
+    rw (lt-ltb (c .before .before .before .before .before .before .before .before .before .before .before .before .before .args .tally .made) 256 (omega arith))
+    (refl, (c .before .before .before .write .ensures .1 .0, (c .before .before .before .before .before .before .before .make .ensures, λ l. c .before .before .before .write .ensures .1 .1)))
 
 pub make-spec : {M : Type 1} → statement M
 make-spec = tie.close (tie.spec returns make-requires write-requires add-t17 same-length same-length-2 returns-2)

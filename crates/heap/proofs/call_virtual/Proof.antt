@@ -30,7 +30,7 @@ returns c =
     let same = decided (λ k v. virtualCall p k (a .a) (a .b) (a .c) v) (now (a .objects)) s (register f (a .c)) _ _ e
     (c .before .virtual-call .ensures) (c .before .before .class-of .ensures) (c .before .before .before .register .ensures ∙ sees .first) (sees .class) in
     rw (sym same)
-    (away-acts p e (a .top) pc (lent (now (a .frames)) (now (a .objects)) st) (c .away .result) (c .away .ensures)
+    (away-acts e (a .top) pc (lent (now (a .frames)) (now (a .objects)) st) (c .away .result) (c .away .ensures)
     (call-away p (c .before .before .class-of .result) (a .a) (a .b) (a .c) (c .before .before .before .register .result) e (c .before .virtual-call .ensures)))
 
 pub call-virtual-spec : {M : Type 1} → statement M

@@ -33,7 +33,7 @@ returns c =
     let same = decided (λ k v. checkCast p k (a .a) (a .b) v) (now (a .objects)) s (register f (a .a)) _ _ e
     (c .before .before .before .before .check-cast .ensures) (c .before .before .before .before .before .class-of .ensures) (c .before .before .before .before .before .before .register .ensures ∙ sees .first) (sees .class) in
     rw (sym same)
-    (settled-acts p e (a .top) (a .pc) (now (a .frames)) (now (a .objects)) st (c .before .before .settle .last .0) (c .before .before .settle .result) (c .before .before .settle .ensures)
+    (settled-acts e (a .top) (a .pc) (now (a .frames)) (now (a .objects)) st (c .before .before .settle .last .0) (c .before .before .settle .result) (c .before .before .settle .ensures)
     (cast-settled p (c .before .before .before .before .before .class-of .result) (a .a) (a .b) (c .before .before .before .before .before .before .register .result) e (c .before .before .before .before .check-cast .ensures)))
 
 pub check-cast-spec : {M : Type 1} → statement M

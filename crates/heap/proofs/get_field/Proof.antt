@@ -37,7 +37,7 @@ returns c =
     let same = decided (λ k v. getField p k (a .a) (a .c) v) (now (a .objects)) s (register f (a .b)) _ _ e
     (c .before .before .before .before .before .get-field .ensures) (c .before .before .before .before .before .before .class-of .ensures) (c .before .before .before .before .before .before .before .register .ensures ∙ sees .first) (sees .class) in
     rw (sym same)
-    (settled-acts p e (a .top) (a .pc) (now (a .frames)) (now (a .objects)) st (c .before .before .settle .last .0) (c .before .before .settle .result) (c .before .before .settle .ensures)
+    (settled-acts e (a .top) (a .pc) (now (a .frames)) (now (a .objects)) st (c .before .before .settle .last .0) (c .before .before .settle .result) (c .before .before .settle .ensures)
     (get-settled p (c .before .before .before .before .before .before .class-of .result) (a .a) (a .c) (c .before .before .before .before .before .before .before .register .result) e (c .before .before .before .before .before .get-field .ensures) (c .before .before .before .before .match .keys2)))
 
 cell-requires : tie.Need-cell-requires
@@ -58,7 +58,7 @@ returns-2 c =
     let same = decided (λ k v. getField p k (a .a) (a .c) v) (now (a .objects)) s (register f (a .b)) _ _ e
     (c .before .before .before .before .before .before .before .before .get-field .ensures) (c .before .before .before .before .before .before .before .before .before .class-of .ensures) (c .before .before .before .before .before .before .before .before .before .before .register .ensures ∙ sees .first) (sees .class) in
     rw (sym same, c .before .before .before .before .before .before .e .given .1, c .before .before .write .ensures .0, c .before .before .write .ensures .1 .0)
-    (load-acts p _ _ _ _ st _ _ _ _ (c .before .before .before .before .cell .ensures) (c .before .before .write .ensures .1 .1))
+    (load-acts _ _ _ _ st _ _ _ _ (c .before .before .before .before .cell .ensures) (c .before .before .write .ensures .1 .1))
 
 pub get-field-spec : {M : Type 1} → statement M
 get-field-spec = tie.close (tie.spec register-requires class-of-requires get-field-requires enum-known-e settle-requires same-length returns cell-requires write-requires same-length-2 returns-2)

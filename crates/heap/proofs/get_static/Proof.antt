@@ -15,7 +15,7 @@ same-length c = c .before .before .write .kept .0
 returns : tie.Need-returns
 returns c =
     λ p ob s f sees. rw (c .before .before .write .ensures .0, c .before .before .write .ensures .1 .0)
-    (load-static-acts p _ _ _ ob _ _ _ _ (c .before .before .before .before .value-at .ensures) (c .before .before .write .ensures .1 .1))
+    (load-static-acts _ _ _ ob _ _ _ _ (c .before .before .before .before .value-at .ensures) (c .before .before .write .ensures .1 .1))
 
 pub get-static-spec : {M : Type 1} → statement M
 get-static-spec = tie.close (tie.spec value-at-requires write-requires same-length returns)

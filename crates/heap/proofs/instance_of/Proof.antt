@@ -33,7 +33,7 @@ returns c =
     let same = decided (λ k v. instanceOf p k (a .a) (a .c) v) (now (a .objects)) s (register f (a .b)) _ _ e
     (c .before .before .before .before .instance-of .ensures) (c .before .before .before .before .before .class-of .ensures) (c .before .before .before .before .before .before .register .ensures ∙ sees .first) (sees .class) in
     rw (sym same)
-    (settled-acts p e (a .top) (a .pc) (now (a .frames)) (now (a .objects)) st (c .before .before .settle .last .0) (c .before .before .settle .result) (c .before .before .settle .ensures)
+    (settled-acts e (a .top) (a .pc) (now (a .frames)) (now (a .objects)) st (c .before .before .settle .last .0) (c .before .before .settle .result) (c .before .before .settle .ensures)
     (test-settled p (c .before .before .before .before .before .class-of .result) (a .a) (a .c) (c .before .before .before .before .before .before .register .result) e (c .before .before .before .before .instance-of .ensures)))
 
 pub instance-of-spec : {M : Type 1} → statement M

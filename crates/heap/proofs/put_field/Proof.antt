@@ -45,7 +45,7 @@ returns c =
     let same = decided (λ k v. putField p k (a .c) u v) (now (a .objects)) s (register f (a .b)) _ _ e
     (c .before .before .before .before .before .put-field .ensures) (c .before .before .before .before .before .before .before .before .class-of .ensures) (c .before .before .before .before .before .before .before .before .before .before .register .ensures ∙ sees .first) (sees .class) in
     rw (sym (sees .second), sym (c .before .before .before .before .before .before .register2 .ensures), sym same)
-    (settled-acts p e (a .top) (a .pc) (now (a .frames)) (now (a .objects)) st (c .before .before .settle .last .0) (c .before .before .settle .result) (c .before .before .settle .ensures)
+    (settled-acts e (a .top) (a .pc) (now (a .frames)) (now (a .objects)) st (c .before .before .settle .last .0) (c .before .before .settle .result) (c .before .before .settle .ensures)
     (put-settled p (c .before .before .before .before .before .before .before .before .class-of .result) (a .c) u (c .before .before .before .before .before .before .before .before .before .before .register .result) e (c .before .before .before .before .before .put-field .ensures) (c .before .before .before .before .match .keys2)))
 
 put-cell-requires : tie.Need-put-cell-requires
@@ -73,7 +73,7 @@ returns-2 c =
     let same = decided (λ k v. putField p k (a .c) u v) (now (a .objects)) s (register f (a .b)) _ _ e
     (c .before .before .before .before .before .before .before .before .before .before .before .put-field .ensures) (c .before .before .before .before .before .before .before .before .before .before .before .before .before .before .class-of .ensures) (c .before .before .before .before .before .before .before .before .before .before .before .before .before .before .before .before .register .ensures ∙ sees .first) (sees .class) in
     rw (sym (sees .second), sym (c .before .before .before .before .before .before .before .before .before .before .before .before .register2 .ensures), sym same, c .before .before .before .before .before .before .before .before .before .e .given .1, c .before .before .go .ensures .0, c .before .before .go .ensures .1, c .before .before .before .before .before .before .put-cell .ensures .0)
-    (store-acts p _ _ _ _ st _ _ _ (c .before .before .before .before .before .before .put-cell .ensures .1))
+    (store-acts _ _ _ _ st _ _ _ (c .before .before .before .before .before .before .put-cell .ensures .1))
 
 pub put-field-spec : {M : Type 1} → statement M
 put-field-spec = tie.close (tie.spec register-requires class-of-requires register-requires-2 put-field-requires enum-known-e settle-requires same-length same-length-2 returns put-cell-requires add-go go-requires same-length-3 same-length-4 returns-2)

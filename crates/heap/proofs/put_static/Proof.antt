@@ -26,7 +26,7 @@ same-length-2 c = c .before .before .before .before .before .before .put-value .
 returns : tie.Need-returns
 returns c =
     λ p ob s f sees. rw (c .before .before .go .ensures .0, c .before .before .go .ensures .1, c .before .before .before .before .before .before .put-value .ensures .0, sym (sees .first), sym (c .before .before .before .before .before .before .before .before .register .ensures))
-    (store-static-acts p _ _ _ ob _ _ _ (c .before .before .before .before .before .before .put-value .ensures .1))
+    (store-static-acts _ _ _ ob _ _ _ (c .before .before .before .before .before .before .put-value .ensures .1))
 
 pub put-static-spec : {M : Type 1} → statement M
 put-static-spec = tie.close (tie.spec register-requires put-value-requires add-go go-requires same-length same-length-2 returns)

@@ -30,7 +30,7 @@ returns c =
     let same = decided (throw p) (now (a .objects)) s (register f (a .a)) _ _ e
     (c .before .throw-value .ensures) (c .before .before .class-of .ensures) (c .before .before .before .register .ensures ∙ sees .first) (sees .class) in
     rw (sym same)
-    (away-acts p e (a .top) pc (lent (now (a .frames)) (now (a .objects)) st) (c .away .result) (c .away .ensures)
+    (away-acts e (a .top) pc (lent (now (a .frames)) (now (a .objects)) st) (c .away .result) (c .away .ensures)
     (throw-away p (c .before .before .class-of .result) (c .before .before .before .register .result) e (c .before .throw-value .ensures)))
 
 pub raise-spec : {M : Type 1} → statement M

@@ -28,7 +28,7 @@ returns : tie.Need-returns
 returns c =
     λ p ob st s f sees.
     rw (sym (sees .first), sym (sees .second), sym (c .before .before .before .before .before .before .before .before .register .ensures), sym (c .before .before .before .before .before .before .register2 .ensures), sym (c .before .before .before .before .before .condition-of .ensures), sym (c .before .before .before .before .branch .ensures))
-    (settled-acts p (c .before .before .before .before .branch .result) (c .before .before .before .before .before .before .before .before .before .before .before .args .top) (c .before .before .before .before .before .before .before .before .before .before .before .args .pc) (c .before .before .before .before .before .before .before .before .before .before .before .args .frames .now) ob st (c .before .before .settle .last .0) (c .before .before .settle .result) (c .before .before .settle .ensures)
+    (settled-acts (c .before .before .before .before .branch .result) (c .before .before .before .before .before .before .before .before .before .before .before .args .top) (c .before .before .before .before .before .before .before .before .before .before .before .args .pc) (c .before .before .before .before .before .before .before .before .before .before .before .args .frames .now) ob st (c .before .before .settle .last .0) (c .before .before .settle .result) (c .before .before .settle .ensures)
     (rw (c .before .before .before .before .branch .ensures) (settled-branch (c .before .before .before .before .before .condition-of .result) (c .before .before .before .before .before .before .before .before .register .result) (c .before .before .before .before .before .before .register2 .result) (c .before .before .before .before .before .before .before .before .before .before .before .args .d))))
 
 pub branch-spec : {M : Type 1} → statement M

@@ -24,7 +24,7 @@ returns : tie.Need-returns
 returns c =
     λ p ob st s f sees.
     rw (sym (sees .first), sym (c .before .before .before .before .before .before .register .ensures), sym (c .before .before .before .before .before .unary-of .ensures), sym (c .before .before .before .before .unop .ensures))
-    (settled-acts p (c .before .before .before .before .unop .result) (c .before .before .before .before .before .before .before .before .before .args .top) (c .before .before .before .before .before .before .before .before .before .args .pc) (c .before .before .before .before .before .before .before .before .before .args .frames .now) ob st (c .before .before .settle .last .0) (c .before .before .settle .result) (c .before .before .settle .ensures)
+    (settled-acts (c .before .before .before .before .unop .result) (c .before .before .before .before .before .before .before .before .before .args .top) (c .before .before .before .before .before .before .before .before .before .args .pc) (c .before .before .before .before .before .before .before .before .before .args .frames .now) ob st (c .before .before .settle .last .0) (c .before .before .settle .result) (c .before .before .settle .ensures)
     (rw (c .before .before .before .before .unop .ensures) (settled-unop (c .before .before .before .before .before .before .before .before .before .args .a) (c .before .before .before .before .before .unary-of .result) (c .before .before .before .before .before .before .register .result))))
 
 pub unop-spec : {M : Type 1} → statement M

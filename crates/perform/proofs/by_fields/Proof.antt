@@ -63,7 +63,7 @@ same-length-6 c = refl
 
 returns-3 : tie.Need-returns-3
 unfolding fieldsOf
-returns-3 c = rw (c .before .before .before .before .before .match .keys3) (c .before .before .get-static .ensures _ _)
+returns-3 c = rw (c .before .before .before .before .before .match .keys3) (c .before .before .get-static .ensures (programIn (c .before .before .before .before .before .before .before .before .before .args .t .now)) _)
 
 same-length-7 : tie.Need-same-length-7
 same-length-7 c = c .before .before .before .before .put-static .kept .0
@@ -73,7 +73,7 @@ same-length-8 c = c .before .before .before .before .put-static .kept .1 .0
 
 returns-4 : tie.Need-returns-4
 unfolding fieldsOf
-returns-4 c = rw (c .before .before .before .before .before .before .before .match .keys4) (c .before .before .before .before .put-static .ensures _ _)
+returns-4 c = rw (c .before .before .before .before .before .before .before .match .keys4) (c .before .before .before .before .put-static .ensures (programIn (c .before .before .before .before .before .before .before .before .before .before .before .args .t .now)) _)
 
 same-length-9 : tie.Need-same-length-9
 same-length-9 c = refl
@@ -119,7 +119,10 @@ same-length-17 : tie.Need-same-length-17
 same-length-17 c = c .before .before .by-fields .kept .0
 
 returns-9 : tie.Need-returns-9
-returns-9 c = rw (toZ-ofZ w32 (c .before .before .before .before .before .before .before .before .args .value) (c .before .before .before .before .before .before .before .before .fits .value)) at (c .before .before .by-fields .ensures (programIn (c .before .before .before .before .before .before .before .before .args .t .now)) (c .before .before .before .before .before .before .before .before .args .objects .now) (c .before .before .before .before .before .before .before .before .args .statics .now) (local-of (c .before .before .before .before .before .before .before .before .args .o) (c .before .before .before .before .match .rest)))
+returns-9 c =
+    let a = c .before .before .before .before .before .before .before .before .args in
+    let same = toZ-ofZ w32 (a .value) (c .before .before .before .before .before .before .before .before .fits .value) in
+    rw (same, local-of (a .o) (a .a) (a .b) (a .c) (a .d) (a .value) (c .before .before .before .before .match .rest)) at (c .before .before .by-fields .ensures (programIn (a .t .now)) (a .objects .now) (a .statics .now))
 
 pub by-fields-spec : {M : Type 1} → statement M
 by-fields-spec = tie.close (tie.spec get-field-requires put-field-requires get-static-requires put-static-requires call-virtual-requires raise-requires instance-of-requires check-cast-requires by-fields-requires same-length same-length-2 returns same-length-3 same-length-4 returns-2 same-length-5 same-length-6 returns-3 same-length-7 same-length-8 returns-4 same-length-9 same-length-10 returns-5 same-length-11 same-length-12 returns-6 same-length-13 same-length-14 returns-7 same-length-15 same-length-16 returns-8 same-length-17 returns-9)
