@@ -22,8 +22,9 @@ use Rattle.memory.specs.Writes.{classIn}
 use Rattle.turn.specs.declared.Act.{Act}
 use Rattle.turn.specs.declared.Act.the-variants as act
 use Rattle.turn.specs.Lies.{Lent}
-use Rattle.turn.specs.Acts.{Acting, Settled, Away}
-use Rattle.heap.specs.Away.{awayAct}
+use Rattle.turn.specs.Acts.{Acting}
+use Rattle.settle.specs.Settles.{Settled}
+use Rattle.heap.specs.Away.{awayAct, Away}
 
 -- ---- what was read
 
@@ -46,15 +47,15 @@ Rest ts e = OneOf ts (tagOf the-type e) → Settled e
 
 get-other : (p : Program) (k a x : ℕ) (v : Value) → Rest notLoad (getField p k a x v)
 get-other p k a x (Number z) =
-    pick-cases (Rest notLoad) (isZero z) (Fail NullAsObject) (Fail NumberAsObject) (λ e t. tt) (λ e t. tt)
+    pick-cases (Rest notLoad) (isZero z) (Fail NullAsObject) (Fail NumberAsObject) (λ e t. refl) (λ e t. refl)
 get-other p k a x (Reference o) =
-    pick-cases (Rest notLoad) (hasField p k x) (Load a o x) (Fail FieldNotHad) (λ e t. absurd (miss notLoad _ tt t)) (λ e t. tt)
+    pick-cases (Rest notLoad) (hasField p k x) (Load a o x) (Fail FieldNotHad) (λ e t. absurd (miss notLoad _ tt t)) (λ e t. refl)
 
 put-other : (p : Program) (k x : ℕ) (u v : Value) → Rest notStore (putField p k x u v)
 put-other p k x u (Number z) =
-    pick-cases (Rest notStore) (isZero z) (Fail NullAsObject) (Fail NumberAsObject) (λ e t. tt) (λ e t. tt)
+    pick-cases (Rest notStore) (isZero z) (Fail NullAsObject) (Fail NumberAsObject) (λ e t. refl) (λ e t. refl)
 put-other p k x u (Reference o) =
-    pick-cases (Rest notStore) (hasField p k x) (Store o x u) (Fail FieldNotHad) (λ e t. absurd (miss notStore _ tt t)) (λ e t. tt)
+    pick-cases (Rest notStore) (hasField p k x) (Store o x u) (Fail FieldNotHad) (λ e t. absurd (miss notStore _ tt t)) (λ e t. refl)
 
 pub get-settled : (p : Program) (k a x : ℕ) (v : Value) (e : Effect)
     → e ≡ getField p k a x v → OneOf notLoad (tagOf the-type e) → Settled e
@@ -65,15 +66,15 @@ pub put-settled : (p : Program) (k x : ℕ) (u v : Value) (e : Effect)
 put-settled p k x u v e q = rw q (put-other p k x u v)
 
 test-other : (p : Program) (k a x : ℕ) (v : Value) → Settled (instanceOf p k a x v)
-test-other p k a x (Number z) = pick-cases Settled (isZero z) (Write a null) (Fail NumberAsObject) (λ e. tt) (λ e. tt)
-test-other p k a x (Reference o) = tt
+test-other p k a x (Number z) = pick-cases Settled (isZero z) (Write a null) (Fail NumberAsObject) (λ e. refl) (λ e. refl)
+test-other p k a x (Reference o) = refl
 
 pub test-settled : (p : Program) (k a x : ℕ) (v : Value) (e : Effect) → e ≡ instanceOf p k a x v → Settled e
 test-settled p k a x v e q = rw q (test-other p k a x v)
 
 cast-other : (p : Program) (k a x : ℕ) (v : Value) → Settled (checkCast p k a x v)
-cast-other p k a x (Number z) = pick-cases Settled (isZero z) (Write a (Number z)) (Fail NumberAsObject) (λ e. tt) (λ e. tt)
-cast-other p k a x (Reference o) = pick-cases Settled (below p k x) (Write a (Reference o)) (Fail FailedCast) (λ e. tt) (λ e. tt)
+cast-other p k a x (Number z) = pick-cases Settled (isZero z) (Write a (Number z)) (Fail NumberAsObject) (λ e. refl) (λ e. refl)
+cast-other p k a x (Reference o) = pick-cases Settled (below p k x) (Write a (Reference o)) (Fail FailedCast) (λ e. refl) (λ e. refl)
 
 pub cast-settled : (p : Program) (k a x : ℕ) (v : Value) (e : Effect) → e ≡ checkCast p k a x v → Settled e
 cast-settled p k a x v e q = rw q (cast-other p k a x v)

@@ -18,3 +18,18 @@ awayAct (Call m c) = act.Call m c
 awayAct (Exit v) = act.Go 0
 awayAct (Raise o) = act.Raise o
 awayAct (Fail e) = act.Fail e
+
+-- the effects of a virtual call and of a throw
+abbrev pub Away : Effect → Type 0
+Away Next = ⊥
+Away (Jump to) = ⊥
+Away (Write a v) = ⊥
+Away (Load a o x) = ⊥
+Away (LoadStatic a x) = ⊥
+Away (Make a k) = ⊥
+Away (Store o x v) = ⊥
+Away (StoreStatic x v) = ⊥
+Away (Call m c) = Unit {0}
+Away (Exit v) = ⊥
+Away (Raise o) = Unit {0}
+Away (Fail e) = Unit {0}

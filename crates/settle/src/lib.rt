@@ -3,13 +3,16 @@ use machine::Effect;
 use machine::Value;
 use turn::Act;
 ghost use mathlib.Core.Path.{_≡_};
-ghost use Prim.Native.Nat.{_+_};
+ghost use mathlib.Core.List.{List};
+ghost use Prim.Native.Nat.{ℕ, _+_};
 ghost use lib.ListN.{set};
 ghost use Rattle.memory.specs.Memory.{valueWord, valueIn};
 ghost use Rattle.memory.specs.Writes.{framePlace};
 ghost use Rattle.turn.specs.declared.Act.the-variants.{Go};
+ghost use Rattle.turn.specs.Lies.{lent};
 ghost use Rattle.turn.specs.Applied.{wroteWords};
-ghost use Rattle.settle.specs.Settles.{settledAct, settledWords, ReadsBack};
+ghost use Rattle.turn.specs.Acts.{Acting};
+ghost use Rattle.settle.specs.Settles.{inFrame};
 
 // Frame `top` goes to an address.
 pub fn go(frames: &mut [u64], top: u8, to: usize) -> Act
@@ -32,9 +35,7 @@ pub fn write(frames: &mut [u64], top: u8, pc: u8, to: u8, v: Value) -> Act
 
 // An effect that is a write, a jump, a fault or `Next`; any other is taken for `Next`, and callers pass none.
 pub fn settle(frames: &mut [u64], top: u8, pc: u8, e: Effect) -> Act
-    ensures act { λ r. ⌜ r ≡ settledAct pc e ⌝ }
-    ensures memory { λ r. ⌜ now (frames .exit) ≡ settledWords (now (frames .entry)) top pc e ⌝ }
-    ensures reads { λ r. ⌜ ReadsBack e ⌝ }
+    ensures act { λ r. ⌜ ((ob st : List ℕ) → Acting (inFrame e) top pc (lent (now (frames .entry)) ob st) r (lent (now (frames .exit)) ob st)) ⌝ }
 {
     match e {
         Effect::Jump { target } => go(frames, top, target as usize),

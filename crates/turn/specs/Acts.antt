@@ -108,33 +108,3 @@ pub record Sees (i : Instruction) (top : ℕ) (now : Lent) (s : State) (f : Fram
 abbrev pub Performed : Program → Instruction → ℕ → ℕ → Lent → Act → Lent → Type 0
 Performed p i top pc now r after =
     (s : State) (f : Frame) → Sees i top now s f → Acting (decide p s f i) top pc now r after
-
--- the effects that an instruction inside its frame has: it writes a register, goes on, jumps or fails
-abbrev pub Settled : Effect → Type 0
-Settled Next = Unit {0}
-Settled (Jump to) = Unit {0}
-Settled (Write a v) = Unit {0}
-Settled (Load a o x) = ⊥
-Settled (LoadStatic a x) = ⊥
-Settled (Make a k) = ⊥
-Settled (Store o x v) = ⊥
-Settled (StoreStatic x v) = ⊥
-Settled (Call m c) = ⊥
-Settled (Exit v) = ⊥
-Settled (Raise o) = ⊥
-Settled (Fail e) = Unit {0}
-
--- those of a virtual call and of a throw
-abbrev pub Away : Effect → Type 0
-Away Next = ⊥
-Away (Jump to) = ⊥
-Away (Write a v) = ⊥
-Away (Load a o x) = ⊥
-Away (LoadStatic a x) = ⊥
-Away (Make a k) = ⊥
-Away (Store o x v) = ⊥
-Away (StoreStatic x v) = ⊥
-Away (Call m c) = Unit {0}
-Away (Exit v) = ⊥
-Away (Raise o) = Unit {0}
-Away (Fail e) = Unit {0}
