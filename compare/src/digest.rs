@@ -47,6 +47,11 @@ pub fn checksum(program: &Program) -> u32 {
     sum(program.frames().concat().into_iter().map(u64::from))
 }
 
+/// A checksum over the bytes of the checker's memory.
+pub fn memory_sum(memory: &[u8]) -> u32 {
+    sum(memory.iter().copied().map(u64::from))
+}
+
 fn sum(words: impl Iterator<Item = u64>) -> u32 {
     let sum = words.fold(0, |sum, word| (sum * FACTOR + word % MODULUS + 1) % MODULUS);
     u32::try_from(sum).expect("the modulus is below 2^32")

@@ -24,6 +24,8 @@ use crate::program::Program;
 use crate::random::Random;
 use std::collections::HashSet;
 
+pub use random_program::likely_program;
+
 /// The least lengths of lent memory in words: frames, objects, statics.
 pub const LEAST: [usize; 3] = [FRAMES, OBJECTS, STATICS];
 /// The greatest lengths that are lent.

@@ -6,25 +6,35 @@
 //! * [`reader`]: text to program, or the refusal (numbers 1 to 4 there,
 //!   numbers 5 and 6 in [`values`]);
 //! * [`machine`]: the stepper, and the run of a program;
+//! * [`claim`]: the claim, and its text;
+//! * [`checker`]: whether a claim keeps the rules, and [`report`], what the
+//!   tool prints of that;
+//! * [`least`]: the least claim that keeps them;
 //! * [`digest`]: an answer as one printed line;
 //! * [`generate`]: the texts that both readers answer, with [`random`] numbers
 //!   where they are to be many;
 //! * [`generate_steps`]: the runs that both steppers make, and [`coverage`],
-//!   what they reach.
+//!   what they reach;
+//! * [`generate_claims`]: the claims that both checkers judge.
 
 #![forbid(unsafe_code)]
 
 pub mod assembly;
+pub mod checker;
+pub mod claim;
 pub mod coverage;
 pub mod digest;
 pub mod frame;
 pub mod generate;
+pub mod generate_claims;
 pub mod generate_steps;
+pub mod least;
 pub mod machine;
 pub mod opcode;
 pub mod program;
 pub mod random;
 pub mod reader;
+pub mod report;
 pub mod values;
 
 /// Why a text is refused: a number, and the line from 1 (0 for the length).
@@ -38,7 +48,15 @@ pub mod values;
 /// 5. a field's value is not allowed;
 /// 6. a method's last instruction falls through.
 ///
-/// And of the memory lent to the stepper: 23, there is too little.
+/// Of a claim:
+/// 9. it is too long;
+/// 10. a line is not one, as 2;
+/// 11. a frame has an unknown kind;
+/// 12. a frame is not the one due, one too many, or missing;
+/// 13. a mask has a bit that is not allowed.
+///
+/// And of the memory lent to the stepper or the checker: 23, there is too
+/// little.
 #[derive(Clone, Copy, Debug, PartialEq, Eq, PartialOrd, Ord)]
 pub struct Refusal {
     pub number: u8,

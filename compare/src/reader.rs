@@ -11,6 +11,9 @@ use crate::{values, Refusal};
 /// The longest text that is read, in bytes.
 pub const MAX_LENGTH: usize = 65_536;
 
+/// Bytes of the longest frame, an instruction's.
+const LONGEST_FRAME: usize = 9;
+
 const MIN_CLASSES: usize = 2;
 const MAX_CLASSES: usize = 60;
 const MAX_FIELDS: usize = 16;
@@ -35,8 +38,8 @@ fn parse(text: &[u8]) -> Result<Program, Refusal> {
     let mut line = 1;
     for bytes in text.split_inclusive(|&byte| byte == b'\n') {
         let refuse = |number| Refusal::new(number, line);
-        let bytes = decode(bytes).ok_or(refuse(2))?;
-        let frame = Frame::from_bytes(&bytes).ok_or(refuse(3))?;
+        let digits = digits(bytes).ok_or(refuse(2))?;
+        let frame = frame(digits).ok_or(refuse(3))?;
         if !can_stand(&program, &frame) {
             return Err(refuse(4));
         }
@@ -50,21 +53,31 @@ fn parse(text: &[u8]) -> Result<Program, Refusal> {
     }
 }
 
-/// The bytes of one line: an even number of lowercase digits, not none, and
-/// the line end.
-fn decode(line: &[u8]) -> Option<Vec<u8>> {
+/// The digits of one line: an even number of lowercase ones, not none, and
+/// the line end after them.
+pub(crate) fn digits(line: &[u8]) -> Option<&[u8]> {
     let digits = line.strip_suffix(b"\n")?;
-    if digits.is_empty() || digits.len() % 2 != 0 {
-        return None;
-    }
-    digits.chunks_exact(2).map(|pair| Some(digit(pair[0])? << 4 | digit(pair[1])?)).collect()
+    let is_digit = |byte: &u8| matches!(byte, b'0'..=b'9' | b'a'..=b'f');
+    let allowed = !digits.is_empty() && digits.len() % 2 == 0 && digits.iter().all(is_digit);
+    allowed.then_some(digits)
 }
 
-fn digit(byte: u8) -> Option<u8> {
-    match byte {
-        b'0'..=b'9' => Some(byte - b'0'),
-        b'a'..=b'f' => Some(byte - b'a' + 10),
-        _ => None,
+/// The frame of these digits; none for an unknown kind or a wrong length.
+fn frame(digits: &[u8]) -> Option<Frame> {
+    let mut bytes = [0; LONGEST_FRAME];
+    let bytes = bytes.get_mut(..digits.len() / 2)?;
+    for (byte, pair) in bytes.iter_mut().zip(digits.chunks_exact(2)) {
+        *byte = value(pair[0]) << 4 | value(pair[1]);
+    }
+    Frame::from_bytes(bytes)
+}
+
+/// The value of a digit.
+fn value(digit: u8) -> u8 {
+    if digit <= b'9' {
+        digit - b'0'
+    } else {
+        digit - b'a' + 10
     }
 }
 

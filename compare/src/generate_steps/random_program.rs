@@ -66,7 +66,8 @@ fn owners(random: &mut Random, classes: u8, methods: &[Signature]) -> Vec<u8> {
     owners
 }
 
-fn likely_program(random: &mut Random) -> Program {
+/// A program that mostly goes on for a while.
+pub fn likely_program(random: &mut Random) -> Program {
     let classes = random.within(5..=8) as u8;
     let superclasses: Vec<u8> = (1..classes)
         .map(|class| if class > 1 && random.once_in(3) { 1 } else { random.byte_below(class) })

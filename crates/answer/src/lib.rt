@@ -1,8 +1,9 @@
-// The stepper's answer as words: a number and, where five words are lent, those. docs/FORMATS.md says what each means.
+// The checker's and the stepper's answers as words: a number and, where five words are lent, those. docs/FORMATS.md says what each means.
 use bounded::Outcome;
 use bounded::Pending;
 use machine::Fault;
 use turn::Halt;
+use verdict::Verdict;
 ghost use mathlib.Core.Path.{_≡_};
 ghost use mathlib.Core.List.{_∷_};
 ghost use Prim.Native.Nat.{ℕ};
@@ -12,7 +13,8 @@ ghost use Rattle.instruction.specs.Word.{pick};
 ghost use Rattle.machine.specs.State.{faultNumber};
 ghost use Rattle.turn.specs.Stop.{haltNumber};
 ghost use Rattle.bounded.specs.Step.{numberOf, valuesOf, pendingValues};
-ghost use Rattle.answer.specs.Words.{pendingWord, answered};
+ghost use Rattle.verdict.specs.Numbers.{numberOf as verdictNumber, valuesOf as verdictValues};
+ghost use Rattle.answer.specs.Words.{pendingWord, answered, verdictAnswered};
 
 fn fault_number(f: Fault) -> u8
     ensures value { λ r. ⌜ r ≡ faultNumber f ⌝ }
@@ -87,5 +89,22 @@ pub fn put_outcome(answer: &mut [u64], o: Outcome) -> u64
             let word = pending_word(pending);
             put(answer, number, steps, word, frames as u64, objects as u64)
         }
+    }
+}
+
+// Writes what `checker::check` answered as five words, and answers its number.
+pub fn put_verdict(answer: &mut [u64], v: Verdict) -> u64
+    ensures number { λ r. ⌜ r ≡ verdictNumber v ⌝ }
+    ensures memory { λ r. ⌜ now (answer .exit) ≡ verdictAnswered (verdictNumber v) (verdictValues v) (now (answer .entry)) ⌝ }
+{
+    match v {
+        Verdict::Accepted(count) => put(answer, 34, count as u64, 0, 0, 0),
+        Verdict::Violated {
+            rule,
+            method,
+            address,
+        } => put(answer, 35, rule as u64, method as u64, address as u64, 0),
+        Verdict::Refused { number, line } => put(answer, number as u64, line as u64, 0, 0, 0),
+        Verdict::Short => put(answer, 23, 0, 0, 0, 0),
     }
 }

@@ -1,8 +1,10 @@
 // What programs in other languages link: functions on numbers and slices of numbers. docs/FORMATS.md says what each word means.
 ghost use mathlib.Core.Path.{_≡_};
+ghost use lib.ListN.{length};
 ghost use Rattle.reader.specs.Read.{readProgram, readingNumber};
 ghost use Rattle.bounded.specs.Step.{stepping, steppingNumber, steppingValues, framesAfter, objectsAfter, staticsAfter};
-ghost use Rattle.answer.specs.Words.{answered};
+ghost use Rattle.answer.specs.Words.{answered, verdictAnswered};
+ghost use Rattle.checker.specs.Check.{checking, checkingNumber, checkingValues, memoryAfter};
 
 // The number of a program text: 0 where it is read, else its refusal's.
 #[no_mangle]
@@ -31,4 +33,21 @@ pub extern "C" fn hudzmoke_step(
 {
     let outcome = stepper::step(text, n, frames, objects, statics);
     answer::put_outcome(answer, outcome)
+}
+
+// Checks a claim of a program: the number of the verdict. Words 0 to 4 of the answer are that number, the calls (or rule, method and
+// address; or the line), and 0. Accepted: the call list stands at the front of memory, three bytes a call.
+#[no_mangle]
+pub extern "C" fn hudzmoke_check(
+    program: &[u8],
+    claim: &[u8],
+    memory: &mut [u8],
+    answer: &mut [u64],
+) -> u64
+    ensures number { λ r. ⌜ r ≡ checkingNumber (checking (now (program .entry)) (now (claim .entry)) (length (now (memory .entry)))) ⌝ }
+    ensures answer { λ r. ⌜ now (answer .exit) ≡ verdictAnswered (checkingNumber (checking (now (program .entry)) (now (claim .entry)) (length (now (memory .entry))))) (checkingValues (checking (now (program .entry)) (now (claim .entry)) (length (now (memory .entry))))) (now (answer .entry)) ⌝ }
+    ensures memory { λ r. ⌜ now (memory .exit) ≡ memoryAfter (checking (now (program .entry)) (now (claim .entry)) (length (now (memory .entry)))) (now (memory .entry)) ⌝ }
+{
+    let verdict = checker::check(program, claim, memory);
+    answer::put_verdict(answer, verdict)
 }

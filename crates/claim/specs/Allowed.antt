@@ -1,9 +1,8 @@
 -- The bits that a claim's masks may have. Definitions only.
 use mathlib.Core.Bool.{Bool, _||_}
-use Prim.Native.Nat.{ℕ, zero, suc, _+_, _*_}
+use Prim.Native.Nat.{ℕ}
 use lib.Dec.{eqb, ltb}
-use Rattle.instruction.specs.Word.{pick}
-use Rattle.mask.specs.Mask.{zeroBit, otherBit}
+use Rattle.mask.specs.Mask.{zeroBit, otherBit, bitsWhere}
 use Rattle.program.specs.Program.{Program, classCount}
 use Rattle.flow.specs.Claim.{Slot, registerAt, resultAt, fieldOf, staticOf, returnedBy, leaving, Claim}
 
@@ -19,11 +18,6 @@ allowed p (fieldOf c x) k = valueBit p k
 allowed p (staticOf x) k = valueBit p k
 allowed p (returnedBy m) k = valueBit p k
 allowed p (leaving m) k = ltb k (classCount p)
-
--- the number whose bits below n are those that pass the test
-abbrev pub bitsWhere : ℕ → (ℕ → Bool) → ℕ
-bitsWhere zero test = 0
-bitsWhere (suc n) test = pick (test zero) 1 0 + 2 * bitsWhere n (λ k. test (suc k))
 
 -- "a claim with all allowed bits"
 unfoldable pub fullClaim : Program → Claim

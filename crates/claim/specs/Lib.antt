@@ -1,1 +1,4 @@
 pub mod Allowed
+pub mod Frames
+pub mod ReadClaim
+pub mod Inside

@@ -1,1 +1,116 @@
-// Claims: which bits a mask may have. Definitions (specs/) and laws.
+// The claim text: a claim's masks into words that the caller lends, or a refusal with its number and line.
+mod due; // due.rt: the frames due
+mod line; // line.rt: one line
+mod walk; // walk.rt: line after line
+
+ghost use mathlib.Core.Path.{_≡_};
+ghost use Rattle.program.specs.Tables.{programIn};
+ghost use Rattle.slots.specs.Layout.{noMasks};
+ghost use Rattle.claim.specs.ReadClaim.{readClaim, readingNumber, readingValues, masksAfter, numberOf, valuesOf, lineOf};
+ghost use Rattle.claim.specs.Inside.{answerOf};
+
+// What a text turned out to be. A refusal has its line; that of the length has line 0.
+pub enum Answer {
+    Read,
+    TooLong,
+    BadLine(usize),
+    UnknownKind(usize),
+    NotDue(usize),
+    BadBit(usize),
+}
+
+// The parts of a claim text, one for each kind of frame.
+pub enum Part {
+    Address,
+    Field,
+    Static,
+    Returned,
+    Leaving,
+}
+
+// A frame that is due: its kind, the digits before its masks, how many registers' masks it has before the last one, the last one's
+// place, and the bits that its masks may have.
+pub struct Frame {
+    pub kind: u64,
+    pub head: usize,
+    pub registers: usize,
+    pub last: usize,
+    pub allowed: u64,
+}
+
+// Where a walk by line stands: the number of a refusal or 0, the place of the next line, and that line's number.
+pub struct Cursor {
+    pub number: usize,
+    pub at: usize,
+    pub line: usize,
+}
+
+// Document 01's number of an answer, 0 for one that is no refusal.
+pub fn number_of(a: Answer) -> u8
+    ensures value { λ r. ⌜ r ≡ numberOf a ⌝ }
+{
+    match a {
+        Answer::Read => 0,
+        Answer::TooLong => 9,
+        Answer::BadLine(line) => 10,
+        Answer::UnknownKind(line) => 11,
+        Answer::NotDue(line) => 12,
+        Answer::BadBit(line) => 13,
+    }
+}
+
+// The line of an answer, 0 for one that is no refusal.
+pub fn line_of(a: Answer) -> usize
+    ensures value { λ r. ⌜ r ≡ lineOf a ⌝ }
+{
+    match a {
+        Answer::Read => 0,
+        Answer::TooLong => 0,
+        Answer::BadLine(line) => line,
+        Answer::UnknownKind(line) => line,
+        Answer::NotDue(line) => line,
+        Answer::BadBit(line) => line,
+    }
+}
+
+// The answer of a refusal's number, 10 to 13.
+fn refusal(number: usize, line: usize) -> Answer
+    ensures value { λ r. ⌜ r ≡ answerOf number line ⌝ }
+{
+    match number {
+        10 => Answer::BadLine(line),
+        11 => Answer::UnknownKind(line),
+        12 => Answer::NotDue(line),
+        _ => Answer::BadBit(line),
+    }
+}
+
+// Reads a claim text by way of a draft, the words of no mask, which is copied when nothing is left to refuse.
+fn read_by(t: &[u64; 768], text: &[u8], draft: &mut [u64; 9712], w: &mut [u64; 9712]) -> Answer
+    requires { ⌜ now draft ≡ noMasks ⌝ }
+    ensures answer { λ r. ⌜ (numberOf r ≡ readingNumber (readClaim (programIn (now (t .entry))) (now (text .entry)))) × (valuesOf r ≡ readingValues (readClaim (programIn (now (t .entry))) (now (text .entry)))) ⌝ }
+    ensures memory { λ r. ⌜ now (w .exit) ≡ masksAfter (readClaim (programIn (now (t .entry))) (now (text .entry))) (now (w .entry)) ⌝ }
+{
+    if 262144 < text.len() {
+        return Answer::TooLong;
+    }
+    let end = walk::take_parts(t, text, &mut *draft);
+    if end.number != 0 {
+        return refusal(end.number, end.line);
+    }
+    let more = walk::after_last(text, end.at);
+    if more != 0 {
+        return refusal(more, end.line);
+    }
+    *w = *draft;
+    Answer::Read
+}
+
+// Reads a claim text for the program in tables. Read: the words hold the claim. Refused: they are as they were.
+pub fn read(t: &[u64; 768], text: &[u8], w: &mut [u64; 9712]) -> Answer
+    ensures answer { λ r. ⌜ (numberOf r ≡ readingNumber (readClaim (programIn (now (t .entry))) (now (text .entry)))) × (valuesOf r ≡ readingValues (readClaim (programIn (now (t .entry))) (now (text .entry)))) ⌝ }
+    ensures memory { λ r. ⌜ now (w .exit) ≡ masksAfter (readClaim (programIn (now (t .entry))) (now (text .entry))) (now (w .entry)) ⌝ }
+{
+    let mut draft = [0u64; 9712];
+    read_by(t, text, &mut draft, w)
+}

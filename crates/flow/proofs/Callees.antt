@@ -20,7 +20,7 @@ use Rattle.flow.specs.Rules.{rulesOf, rulesAt}
 use Rattle.flow.specs.Calls.{calledBy, CallAt, by-static, by-virtual}
 
 -- ---- a test that passes at one of 0, 1, .., n - 1
-some-at : (n : ℕ) (test : ℕ → Bool) (i : ℕ) → i < n → test i ≡ true → some n test ≡ true
+pub some-at : (n : ℕ) (test : ℕ → Bool) (i : ℕ) → i < n → test i ≡ true → some n test ≡ true
 some-at zero test i l e = absurd (not-suc-le-zero l)
 some-at (suc n) test zero l e = rw e
 some-at (suc n) test (suc i) l e = or-right (test zero) _ (some-at n (λ k. test (suc k)) i (le-of-suc-le-suc l) e)
@@ -29,7 +29,7 @@ or-cases : {P : Type 0} (a b : Bool) → (a ≡ true → P) → (b ≡ true → 
 or-cases true b h k e = h refl
 or-cases false b h k e = k e
 
-some-one : (n : ℕ) (test : ℕ → Bool) → some n test ≡ true → (i : ℕ) × (i < n) × (test i ≡ true)
+pub some-one : (n : ℕ) (test : ℕ → Bool) → some n test ≡ true → (i : ℕ) × (i < n) × (test i ≡ true)
 some-one zero test e = absurd (false≢true e)
 some-one (suc n) test e =
     or-cases (test zero) (some n (λ k. test (suc k))) (λ h. (zero, omega arith, h))
@@ -38,7 +38,7 @@ some-one (suc n) test e =
     (suc i, omega arith, t))
     e
 
-found-is : (r : Callee) (q : ℕ) → isFound r q ≡ true → r ≡ Found q
+pub found-is : (r : Callee) (q : ℕ) → isFound r q ≡ true → r ≡ Found q
 found-is (Found m) q e = rw (eqb-true m q e)
 found-is Missing q e = absurd (false≢true e)
 

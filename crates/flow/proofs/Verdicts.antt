@@ -36,7 +36,7 @@ first-at (suc k) g e zero l = or-else-left (g zero) (firstOf k (λ i. g (suc i))
 first-at (suc k) g e (suc i) l =
     first-at k (λ i. g (suc i)) (or-else-right (g zero) (firstOf k (λ i. g (suc i))) e) i (le-of-suc-le-suc l)
 
-first-all : (k : ℕ) (g : ℕ → Verdict) → ((i : ℕ) → i < k → g i ≡ accepted) → firstOf k g ≡ accepted
+pub first-all : (k : ℕ) (g : ℕ → Verdict) → ((i : ℕ) → i < k → g i ≡ accepted) → firstOf k g ≡ accepted
 first-all zero g h = refl
 first-all (suc k) g h = rw (h zero (omega arith)) (first-all k (λ i. g (suc i)) (λ i l. h (suc i) (omega arith)))
 

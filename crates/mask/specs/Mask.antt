@@ -1,7 +1,8 @@
 -- Masks: which bits a mask has, and when one mask is a subset of another. Definitions only.
 use mathlib.Core.Bool.{Bool, true, not, _&&_, _||_}
-use Prim.Native.Nat.{ℕ, zero, suc, _/_, _%_, _^_}
+use Prim.Native.Nat.{ℕ, zero, suc, _+_, _*_, _/_, _%_, _^_}
 use lib.Dec.{eqb, ltb}
+use Rattle.instruction.specs.Word.{pick}
 use Rattle.mask.specs.declared.Mask.{Mask}
 
 -- "62 for number zero, 63 for other numbers"
@@ -27,3 +28,8 @@ subset m other = every 64 (λ k. not (has m k) || has other k)
 -- the mask has zero's bit or that of other numbers
 unfoldable pub hasNumber : Mask → Bool
 hasNumber m = has m zeroBit || has m otherBit
+
+-- the number whose bits below n are those that pass the test
+abbrev pub bitsWhere : ℕ → (ℕ → Bool) → ℕ
+bitsWhere zero test = 0
+bitsWhere (suc n) test = pick (test zero) 1 0 + 2 * bitsWhere n (λ k. test (suc k))

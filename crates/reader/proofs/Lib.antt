@@ -6,3 +6,4 @@ pub mod Turn
 pub mod Outcome
 pub mod Steady
 pub mod WellFormed
+pub mod Answers

@@ -60,7 +60,7 @@ fn answers(t: &[u64; 768], c: usize, name: usize, count: usize, m: usize) -> boo
 }
 
 // The method of class c itself that a virtual call leads to, and one more; 0 where there is none.
-fn method_in(t: &[u64; 768], c: usize, name: usize, count: usize) -> usize
+pub fn method_in(t: &[u64; 768], c: usize, name: usize, count: usize) -> usize
     ensures value { λ r. ⌜ r ≡ calleeNumber (methodIn (programIn (now (t .entry))) c name count) ⌝ }
 {
     let n = program::method_count(t);

@@ -5,16 +5,15 @@ use mathlib.Core.List.{List, [], _∷_}
 use Prim.Native.Nat.{ℕ, _≤_}
 use native.Mathlib.Omega.{arith}
 use lib.ListN.{length}
-use Rattle.text.proofs.Cases.{never}
 use Rattle.instruction.specs.Test.{most, _&_}
 use Rattle.instruction.proofs.Laws.{holds}
 use Rattle.program.specs.Program.{Program}
 use Rattle.program.specs.Tables.{tablesOf, programIn}
 use Rattle.program.proofs.Tables.{program-of-tables}
 use Rattle.reader.specs.declared.Answer.{Answer}
-use Rattle.reader.specs.declared.Answer.the-variants.{Read, TooLong, BadLine, BadFrame, OutOfOrder, BadValue, FallsThrough}
 use Rattle.reader.specs.Read.{Reading, refused, taken, readProgram, readingNumber, readingValues, tablesAfter, numberOf as readNumber, valuesOf as readValues, lineOf}
 use Rattle.reader.specs.Formed.{Formed}
+use Rattle.reader.proofs.Answers.{line-is, found-program}
 use Rattle.reader.proofs.WellFormed.{well-formed}
 use Rattle.turn.specs.Lies.{Lent}
 use Rattle.bounded.specs.declared.Outcome.{Outcome}
@@ -33,15 +32,6 @@ Answered x r before now =
 
 -- ---- the reader's answer
 
-line-is : (a : Answer) → (readNumber a ≡ 0 → ⊥) → readValues a ≡ lineOf a ∷ []
-line-is Read d = absurd (d refl)
-line-is TooLong d = refl
-line-is (BadLine line) d = refl
-line-is (BadFrame line) d = refl
-line-is (OutOfOrder line) d = refl
-line-is (BadValue line) d = refl
-line-is (FallsThrough line) d = refl
-
 turned-down : (x : Reading) (a : Answer) (n : ℕ) (room : Bool) → readNumber a ≡ readingNumber x → readValues a ≡ readingValues x
     → (readNumber a ≡ 0 → ⊥) → steppingBy x n room ≡ turnedDown (readNumber a) (lineOf a)
 turned-down (refused number line) a n room e v d =
@@ -49,16 +39,6 @@ turned-down (refused number line) a n room e v d =
     let k : lineOf a ≡ line = cc in
     rw (e, k) refl
 turned-down (taken p) a n room e v d = absurd (d e)
-
-found-program : {P : Type 0} (x : Reading) (a : Answer) → readNumber a ≡ 0 → readValues a ≡ readingValues x → ((p : Program) → x ≡ taken p → P) → P
-found-program (taken p) a e v k = k p refl
-found-program (refused number line) Read e v k = never (cc)
-found-program (refused number line) TooLong e v k = never (sym e)
-found-program (refused number line) (BadLine l) e v k = absurd (omega arith)
-found-program (refused number line) (BadFrame l) e v k = absurd (omega arith)
-found-program (refused number line) (OutOfOrder l) e v k = absurd (omega arith)
-found-program (refused number line) (BadValue l) e v k = absurd (omega arith)
-found-program (refused number line) (FallsThrough l) e v k = absurd (omega arith)
 
 -- what is enough
 pub enough-is : (a b c : ℕ) → enough a b c ≡ true → (608 ≤ a) × (4352 ≤ b) × (16 ≤ c)

@@ -25,6 +25,13 @@ from-bound n (d ∷ ds) =
 pub number-bound : (ds : List ℕ) → numberOf ds < 16 ^ length ds
 number-bound ds = omega (arith, from-bound 0 ds)
 
+-- so do at most n
+pub number-below : (ds : List ℕ) (n : ℕ) → numberOf (take n ds) < 16 ^ n
+number-below ds n =
+    let few : length (take n ds) ≤ n = rw length-take (omega arith) in
+    let below : 16 ^ length (take n ds) ≤ 16 ^ n = pow-le-pow-right (omega arith) few in
+    omega (arith, number-bound (take n ds))
+
 -- a digit at the end
 from-snoc : (n : ℕ) (ds : List ℕ) (d : ℕ) → numberFrom n (ds ++ (d ∷ [])) ≡ numberFrom n ds * 16 + digitOf d % 16
 unfolding numberFrom
@@ -53,9 +60,9 @@ module _ (s : List ℕ) (at i : ℕ) where
   -- while i is below 16, one digit more fits in 64 bits
   pub number-room : i < 16 → numberOf (take i (drop at s)) * 16 + 15 < 2 ^ 64
   number-room l =
-      let few : length (take i (drop at s)) ≤ 15 = rw length-take (omega arith) in
-      let below : 16 ^ length (take i (drop at s)) ≤ 16 ^ 15 = pow-le-pow-right (omega arith) few in
-      omega (arith, number-bound (take i (drop at s)))
+      let few : i ≤ 15 = omega arith in
+      let below : 16 ^ i ≤ 16 ^ 15 = pow-le-pow-right (omega arith) few in
+      omega (arith, number-below (drop at s) i)
 
   -- all that the text has of `count` digits, at most 16
   pub number-whole : (count : ℕ) → i ≡ min (min count 16) (length s - at)

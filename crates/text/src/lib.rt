@@ -1,8 +1,11 @@
 // Lines and hexadecimal digits of a text. Program reader and claim reader both go through these; nothing here knows frames.
+mod words; // words.rt: eight digits in one word
+
 ghost use mathlib.Core.Path.{_≡_};
-ghost use Prim.Native.Nat.{ℕ, _+_, _-_, min};
-ghost use lib.ListN.{length, drop};
-ghost use Rattle.text.specs.Hex.{digitOf, linesOf, lineReadOf, numberOf, digitsAt};
+ghost use Prim.Native.Nat.{ℕ, _+_, _-_, _≤_, min};
+ghost use lib.Dec.{ltb};
+ghost use lib.ListN.{length, take, drop};
+ghost use Rattle.text.specs.Hex.{digitOf, allDigits, linesOf, lineReadOf, numberOf, digitsAt};
 ghost use Rattle.text.specs.Run.{digitRun};
 
 // What stands at a place of a text.
@@ -34,11 +37,50 @@ pub fn digit(b: u8) -> u8
     16
 }
 
+// Whether a byte is a digit, without a branch.
+fn is_digit(b: u8) -> bool
+    ensures value { λ r. ⌜ r ≡ ltb (digitOf b) 16 ⌝ }
+{
+    (b >= 48) & (b < 58) | (b >= 97) & (b < 103)
+}
+
+// Whether the 16 bytes at a place are digits. None is skipped, so that the machine looks at all of them at once.
+fn block(text: &[u8], at: usize) -> bool
+    requires { ⌜ at + 16 ≤ length (now text) ⌝ }
+    ensures digits { λ r. ⌜ r ≡ allDigits (take 16 (drop at (now (text .entry)))) ⌝ }
+{
+    let mut all = true;
+    let mut i = 0;
+    while i < 16 {
+        all = all & is_digit(text[at + i]);
+        i += 1;
+    }
+    all
+}
+
+// A place from which on the run at a place ends where it does, after the blocks of digits there.
+fn after_blocks(text: &[u8], at: usize) -> usize
+    ensures place { λ r. ⌜ at ≤ r ⌝ }
+    ensures end { λ r. ⌜ at + digitRun (drop at (now (text .entry))) ≡ r + digitRun (drop r (now (text .entry))) ⌝ }
+{
+    if at >= text.len() {
+        return at;
+    }
+    let mut i = at;
+    while text.len() - i >= 16 {
+        if !block(text, i) {
+            return i;
+        }
+        i += 16;
+    }
+    i
+}
+
 // How many digits stand at a place, none past the end.
 fn run(text: &[u8], at: usize) -> usize
     ensures digits { λ r. ⌜ r ≡ digitRun (drop at (now (text .entry))) ⌝ }
 {
-    let mut i = at;
+    let mut i = after_blocks(text, at);
     while i < text.len() {
         if digit(text[i]) >= 16 {
             return i - at;
@@ -91,11 +133,11 @@ fn width(text: &[u8], at: usize, count: usize) -> usize
     16
 }
 
-// The number of at most 16 digits at a place, the high digit first.
-pub fn number_at(text: &[u8], at: usize, count: usize) -> u64
-    ensures value { λ r. ⌜ r ≡ numberOf (digitsAt (now (text .entry)) at count) ⌝ }
+// The number of n digits at a place, the high digit first.
+fn first(text: &[u8], at: usize, n: usize) -> u64
+    requires { ⌜ (n ≤ length (now text) - at) × (n ≤ 16) ⌝ }
+    ensures value { λ r. ⌜ r ≡ numberOf (take n (drop at (now (text .entry)))) ⌝ }
 {
-    let n = width(text, at, count);
     let mut value: u64 = 0;
     let mut i = 0;
     while i < n {
@@ -103,4 +145,17 @@ pub fn number_at(text: &[u8], at: usize, count: usize) -> u64
         i += 1;
     }
     value
+}
+
+// The number of at most 16 digits at a place, the high digit first. 16 that are all digits are the common case.
+pub fn number_at(text: &[u8], at: usize, count: usize) -> u64
+    ensures value { λ r. ⌜ r ≡ numberOf (digitsAt (now (text .entry)) at count) ⌝ }
+{
+    let n = width(text, at, count);
+    if n == 16 {
+        if block(text, at) {
+            return words::sixteen(text, at);
+        }
+    }
+    first(text, at, n)
 }

@@ -1,6 +1,8 @@
-//! Measures the proved implementation beside this one: long runs and reading.
-//! Both make every run in turn, and their answers and memory must agree.
+//! Measures the proved implementation beside this one: long runs, reading and
+//! checking. Both do everything in turn, and their answers and memory must
+//! agree.
 
+mod checks;
 mod measure;
 mod programs;
 mod proved;
@@ -25,6 +27,8 @@ fn main() {
     heading("reading, MB/s");
     reading("largest program", &largest_program().text(), 0);
     reading("refused text", &refused_text(), 3);
+    heading("checking, µs (bytes of texts)");
+    checks::all().iter().for_each(checks::measure);
 }
 
 fn heading(what: &str) {

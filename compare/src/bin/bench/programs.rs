@@ -106,7 +106,7 @@ fn across_a_caller() -> Program {
 }
 
 /// A loop that calls, stores, asks for classes and now and then throws.
-fn mixed() -> Program {
+pub fn mixed() -> Program {
     let main = vec![
         new_instance(0, 2),
         new_instance(2, 4),

@@ -19,6 +19,20 @@ extern "C" {
 
     /// Returns 0 for a program, else the refusal's number.
     fn hudzmoke_read(text: *const u8, text_length: usize) -> u64;
+
+    /// Returns the number. The answer gets number, then count, 0, 0 (34,
+    /// accepted), or rule, method, address (35, violated), or line, 0, 0; and
+    /// 0.
+    fn hudzmoke_check(
+        program: *const u8,
+        program_length: usize,
+        claim: *const u8,
+        claim_length: usize,
+        memory: *mut u8,
+        memory_length: usize,
+        answer: *mut u64,
+        answer_length: usize,
+    ) -> u64;
 }
 
 pub fn step(text: &[u8], n: u64, memory: &mut [Vec<u64>; 3]) -> [u64; 5] {
@@ -48,4 +62,24 @@ pub fn step(text: &[u8], n: u64, memory: &mut [Vec<u64>; 3]) -> [u64; 5] {
 pub fn read(text: &[u8]) -> u64 {
     // SAFETY: the pointer is that of a slice of this length.
     unsafe { hudzmoke_read(text.as_ptr(), text.len()) }
+}
+
+pub fn check(program: &[u8], claim: &[u8], memory: &mut [u8]) -> [u64; 4] {
+    let mut answer = [0; 5];
+    // SAFETY: each pointer is that of a slice of the length beside it, and the
+    // slices that are written lie apart from the others.
+    let number = unsafe {
+        hudzmoke_check(
+            program.as_ptr(),
+            program.len(),
+            claim.as_ptr(),
+            claim.len(),
+            memory.as_mut_ptr(),
+            memory.len(),
+            answer.as_mut_ptr(),
+            answer.len(),
+        )
+    };
+    assert_eq!([number, 0], [answer[0], answer[4]]);
+    [answer[0], answer[1], answer[2], answer[3]]
 }

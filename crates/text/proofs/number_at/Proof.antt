@@ -1,85 +1,36 @@
--- `text::number_at` meets its contract. The invariant: `value` is the number of the first `i` digits, so that one digit more fits.
--- The measure is how many digits are left. Assumes nothing.
-use mathlib.Core.Path.{_≡_, refl, sym, _∙_}
-use Prim.Native.Nat.{_+_, _*_, _-_, _^_, _≤_, _<_}
+-- `text::number_at` meets its contract: the number of as many digits as there are. Assumes nothing.
+use mathlib.Core.Path.{_≡_, sym, _∙_}
 use native.Mathlib.Omega.{arith}
-use lib.ListN.{take, drop}
-use borrow.Author.Needs.{needs}
-use Rattle.text.specs.Hex.{numberFrom, numberOf}
-use Rattle.text.proofs.Numbers.{number-more, number-room, number-whole}
+use Rattle.text.proofs.Numbers.{number-whole}
 use Rattle.text.proofs.number_at.Statement.{statement}
 use Rattle.text.proofs.number_at.Tie as tie
 
-abbrev Inv-loop : tie.InvT-loop
-Inv-loop text at count n value₀ i₀ value i = (i ≤ n) × (value ≡ numberOf (take i (drop at text)))
-
-abbrev μ-loop : tie.MeasureT-loop
-μ-loop text at count n value₀ i₀ value i = n - i
-
--- one digit more fits
-room : (c : tie.In-loop Inv-loop μ-loop) → c .before .loop .value * 16 + 15 < 2 ^ 64
-room c =
-    let a = c .before .before .before .before .args in
-    rw (c .before .loop .inv .1) (number-room (a .text .now) (a .at) (c .before .loop .i) (omega arith))
-
-width-requires : tie.Need-width-requires Inv-loop μ-loop
+width-requires : tie.Need-width-requires
 width-requires c κs = tt
 
-loop-holds : tie.Need-loop-holds Inv-loop μ-loop
-unfolding numberFrom
-loop-holds c = (search needs, refl)
+block-requires : tie.Need-block-requires
+block-requires c κs = omega arith
 
-mul-value : tie.Need-mul-value Inv-loop μ-loop
-mul-value c = omega (arith, room c)
+sixteen-requires : tie.Need-sixteen-requires
+sixteen-requires c κs = (omega arith, sym (c .before .block .ensures) ∙ c .if2 .taken)
 
-add-digit : tie.Need-add-digit Inv-loop μ-loop
-add-digit c = omega arith
-
-shared-slice-read-digit : tie.Need-shared-slice-read-digit Inv-loop μ-loop
-shared-slice-read-digit c = omega arith
-
-digit-requires : tie.Need-digit-requires Inv-loop μ-loop
-digit-requires c κs = tt
-
-cast-value : tie.Need-cast-value Inv-loop μ-loop
-cast-value c = omega arith
-
-add-value : tie.Need-add-value Inv-loop μ-loop
-add-value c = omega (arith, room (c .before .before))
-
-add-i : tie.Need-add-i Inv-loop μ-loop
-add-i c = omega arith
-
-loop-less : tie.Need-loop-less Inv-loop μ-loop
-loop-less c = omega arith
-
-loop-again : tie.Need-loop-again Inv-loop μ-loop
-loop-again c =
-    let a = c .before .before .before .before .before .before .args in
-    let l = c .before .before .before .loop in
-    let more = number-more (a .text .now) (a .at) (l .i) (omega arith) in
-    (omega arith, rw (l .inv .1, c .digit .ensures) (sym more))
-
-returns : tie.Need-returns Inv-loop μ-loop
+returns : tie.Need-returns
 returns c =
+    let a = c .before .before .before .before .before .before .args in
+    let width = c .before .before .before .before .width in
+    let n : 16 ≡ width .result = omega (arith, c .before .before .before .if1 .taken) in
+    c .sixteen .ensures ∙ number-whole (a .text .now) (a .at) 16 (a .count) (n ∙ width .ensures)
+
+first-requires : tie.Need-first-requires
+first-requires c κs = (omega arith, omega arith)
+
+returns-2 : tie.Need-returns-2
+returns-2 c =
     let a = c .before .before .before .before .args in
-    c .before .loop .inv .1 ∙ number-whole (a .text .now) (a .at) (c .before .loop .i) (a .count) (omega arith)
+    let width = c .before .before .width in
+    c .first .ensures ∙ number-whole (a .text .now) (a .at) (width .result) (a .count) (width .ensures)
 
 pub number-at-spec : {M : Type 1} → statement M
 number-at-spec =
     tie.close
-    (tie.spec
-    Inv-loop
-    μ-loop
-    width-requires
-    loop-holds
-    mul-value
-    add-digit
-    shared-slice-read-digit
-    digit-requires
-    cast-value
-    add-value
-    add-i
-    loop-less
-    loop-again
-    returns)
+    (tie.spec width-requires block-requires sixteen-requires returns first-requires returns-2)

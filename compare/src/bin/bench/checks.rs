@@ -1,0 +1,98 @@
+//! Checks of claims, from the smallest to the largest there can be.
+
+use super::measure::interleaved;
+use super::{line, programs, proved, ROUNDS};
+use compare::assembly::SAMPLE;
+use compare::checker::{check, Verdict, Violation, LEAST_MEMORY};
+use compare::claim::Claim;
+use compare::generate_claims::{calling_program, storing_program};
+use compare::least::{greatest, least};
+use compare::program::Program;
+use compare::reader::read;
+use std::hint::black_box;
+
+/// Both texts, how many checks make one measurement, and the number meant.
+/// Claims are least claims, if the name does not say otherwise.
+pub struct Check {
+    name: &'static str,
+    program: Vec<u8>,
+    claim: Vec<u8>,
+    times: usize,
+    number: u64,
+}
+
+/// Numbers of the verdicts.
+const ACCEPTED: u64 = 34;
+const VIOLATED: u64 = 35;
+
+/// Byte i of memory is i modulo this before a check.
+const FILL: usize = 251;
+
+fn of(name: &'static str, program: &Program, claim: &Claim, times: usize) -> Check {
+    let (text, claim) = (program.text(), claim.text(program));
+    Check { name, program: text, claim, times, number: ACCEPTED }
+}
+
+pub fn all() -> Vec<Check> {
+    let sample = read(SAMPLE.as_bytes()).expect("the sample is a program");
+    let mixed = programs::mixed();
+    let (storing, calling) = (storing_program(), calling_program());
+    let stored = least(&storing);
+    // The last address of the last method returns more than the claim says.
+    let mut broken = stored.clone();
+    broken.returned[15] = 0;
+    let last = Check { number: VIOLATED, ..of("stores, violated last", &storing, &broken, 20) };
+    vec![
+        of("sample", &sample, &least(&sample), 4_000),
+        of("mixed", &mixed, &least(&mixed), 400),
+        of("stores", &storing, &stored, 20),
+        last,
+        of("stores, all bits", &storing, &greatest(&storing), 20),
+        of("virtual calls", &calling, &least(&calling), 20),
+        of("virtual calls, all bits", &calling, &greatest(&calling), 20),
+    ]
+}
+
+/// Gives the answer, and may write to the memory.
+type Checker = fn(&[u8], &[u8], &mut [u8]) -> [u64; 4];
+
+fn rust_check(program: &[u8], claim: &[u8], memory: &mut [u8]) -> [u64; 4] {
+    match check(program, claim, memory) {
+        Verdict::Accepted(count) => [ACCEPTED, count as u64, 0, 0],
+        Verdict::Violated(Violation { rule, method, address }) => {
+            [VIOLATED, rule.into(), method.into(), address.into()]
+        }
+        Verdict::Refused(refusal) => [refusal.number.into(), refusal.line.into(), 0, 0],
+    }
+}
+
+fn fresh() -> Vec<u8> {
+    (0..LEAST_MEMORY).map(|place| (place % FILL) as u8).collect()
+}
+
+/// Both check in turn, over and over; each answer and the memory left must be
+/// those of the first check.
+pub fn measure(given: &Check) {
+    let Check { name, program, claim, times, number } = given;
+    let once = |checker: Checker| {
+        let mut memory = fresh();
+        let answer = checker(program, claim, &mut memory);
+        (answer, memory)
+    };
+    let (expected, left) = once(rust_check);
+    assert_eq!(expected[0], *number, "{name}");
+    let (proved_answer, proved_left) = once(proved::check);
+    assert_eq!(proved_answer, expected, "{name}: answers of proved and Rust");
+    let place = proved_left.iter().zip(&left).position(|(proved, rust)| proved != rust);
+    assert_eq!(place, None, "{name}: another byte in the memory");
+
+    let before = fresh();
+    let again = |checker: Checker| {
+        let mut memory = before.clone();
+        let mut check = || checker(black_box(program), black_box(claim), &mut memory);
+        (0..*times).all(|_| black_box(check()) == expected) && memory == left
+    };
+    let [proved, rust] = interleaved(ROUNDS, || again(proved::check), || again(rust_check));
+    let name = format!("{name}, {}", program.len() + claim.len());
+    line(&name, &proved, &rust, |seconds| seconds * 1e6 / *times as f64);
+}

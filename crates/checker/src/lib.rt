@@ -1,0 +1,91 @@
+// The checker: whether a claim meets every flow rule of a program. The call list goes to the front of lent memory.
+use verdict::Verdict;
+ghost use mathlib.Core.Path.{_≡_};
+ghost use Prim.Native.Nat.{ℕ};
+ghost use lib.ListN.{length};
+ghost use Rattle.verdict.specs.declared.Verdict.the-variants.{Accepted};
+ghost use Rattle.verdict.specs.Numbers.{numberOf, valuesOf};
+ghost use Rattle.program.specs.Tables.{programIn};
+ghost use Rattle.flow.specs.Verdict.{accepted, verdict};
+ghost use Rattle.flow.specs.Calls.{callList};
+ghost use Rattle.slots.specs.Layout.{claimIn};
+ghost use Rattle.claim.specs.ReadClaim.{readClaim};
+ghost use Rattle.calls.specs.Bytes.{callsIn};
+ghost use Rattle.checker.specs.Check.{judged, withClaim, checking, answerFor, checkingNumber, checkingValues, memoryAfter};
+ghost use Rattle.checker.specs.Coverage.{Coverage, Accepting};
+
+// The verdict on the claim that stands in words.
+fn judge(t: &[u64; 768], w: &[u64; 9712], memory: &mut [u8]) -> Verdict
+    ensures verdict { λ r. ⌜ r ≡ answerFor (judged (programIn (now (t .entry))) (claimIn (now (w .entry))) (length (now (memory .entry)))) ⌝ }
+    ensures memory { λ r. ⌜ now (memory .exit) ≡ memoryAfter (judged (programIn (now (t .entry))) (claimIn (now (w .entry))) (length (now (memory .entry)))) (now (memory .entry)) ⌝ }
+    ensures list { λ r. ⌜ ((k : ℕ) → r ≡ Accepted k → (verdict (programIn (now (t .entry))) (claimIn (now (w .entry))) ≡ accepted) × (callsIn k (now (memory .exit)) ≡ callList (programIn (now (t .entry))) (claimIn (now (w .entry))))) ⌝ }
+{
+    if memory.len() < 24576 {
+        return Verdict::Short;
+    }
+    let broken = rules::first_broken(t, w);
+    if broken.rule != 11 {
+        return Verdict::Violated {
+            rule: broken.rule,
+            method: broken.method,
+            address: broken.address,
+        };
+    }
+    Verdict::Accepted(calls::write_calls(t, w, memory))
+}
+
+// The verdict on a claim's text, by way of words for its masks.
+fn check_claim(t: &[u64; 768], claim: &[u8], w: &mut [u64; 9712], memory: &mut [u8]) -> Verdict
+    ensures verdict { λ r. ⌜ r ≡ answerFor (withClaim (programIn (now (t .entry))) (length (now (memory .entry))) (readClaim (programIn (now (t .entry))) (now (claim .entry)))) ⌝ }
+    ensures memory { λ r. ⌜ now (memory .exit) ≡ memoryAfter (withClaim (programIn (now (t .entry))) (length (now (memory .entry))) (readClaim (programIn (now (t .entry))) (now (claim .entry)))) (now (memory .entry)) ⌝ }
+    ensures accepting { λ r. ⌜ ((k : ℕ) → r ≡ Accepted k → Accepting (programIn (now (t .entry))) (now (claim .entry)) (callsIn k (now (memory .exit)))) ⌝ }
+{
+    let read = claim::read(t, claim, &mut *w);
+    let number = claim::number_of(read);
+    if number != 0 {
+        return Verdict::Refused {
+            number: number as usize,
+            line: claim::line_of(read),
+        };
+    }
+    judge(t, w, memory)
+}
+
+// The same, with words of its own.
+fn check_tables(t: &[u64; 768], claim: &[u8], memory: &mut [u8]) -> Verdict
+    ensures verdict { λ r. ⌜ r ≡ answerFor (withClaim (programIn (now (t .entry))) (length (now (memory .entry))) (readClaim (programIn (now (t .entry))) (now (claim .entry)))) ⌝ }
+    ensures memory { λ r. ⌜ now (memory .exit) ≡ memoryAfter (withClaim (programIn (now (t .entry))) (length (now (memory .entry))) (readClaim (programIn (now (t .entry))) (now (claim .entry)))) (now (memory .entry)) ⌝ }
+    ensures accepting { λ r. ⌜ ((k : ℕ) → r ≡ Accepted k → Accepting (programIn (now (t .entry))) (now (claim .entry)) (callsIn k (now (memory .exit)))) ⌝ }
+{
+    let mut w = [0u64; 9712];
+    check_claim(t, claim, &mut w, memory)
+}
+
+// The verdict on a program's text and a claim's, by way of tables for the program.
+fn check_by(program: &[u8], claim: &[u8], t: &mut [u64; 768], memory: &mut [u8]) -> Verdict
+    ensures verdict { λ r. ⌜ r ≡ answerFor (checking (now (program .entry)) (now (claim .entry)) (length (now (memory .entry)))) ⌝ }
+    ensures memory { λ r. ⌜ now (memory .exit) ≡ memoryAfter (checking (now (program .entry)) (now (claim .entry)) (length (now (memory .entry)))) (now (memory .entry)) ⌝ }
+    ensures coverage { λ r. ⌜ ((k : ℕ) → r ≡ Accepted k → Coverage (now (program .entry)) (now (claim .entry)) (callsIn k (now (memory .exit)))) ⌝ }
+{
+    let read = reader::read(program, &mut *t);
+    let number = reader::number_of(read);
+    if number != 0 {
+        return Verdict::Refused {
+            number: number as usize,
+            line: reader::line_of(read),
+        };
+    }
+    check_tables(t, claim, memory)
+}
+
+// The verdict on a program's text and a claim's. Accepted: the call list stands at the front of lent memory, three bytes a call, and
+// nothing past it is touched. Else nothing is touched.
+pub fn check(program: &[u8], claim: &[u8], memory: &mut [u8]) -> Verdict
+    ensures verdict { λ r. ⌜ r ≡ answerFor (checking (now (program .entry)) (now (claim .entry)) (length (now (memory .entry)))) ⌝ }
+    ensures numbers { λ r. ⌜ (numberOf r ≡ checkingNumber (checking (now (program .entry)) (now (claim .entry)) (length (now (memory .entry))))) × (valuesOf r ≡ checkingValues (checking (now (program .entry)) (now (claim .entry)) (length (now (memory .entry))))) ⌝ }
+    ensures memory { λ r. ⌜ now (memory .exit) ≡ memoryAfter (checking (now (program .entry)) (now (claim .entry)) (length (now (memory .entry)))) (now (memory .entry)) ⌝ }
+    ensures coverage { λ r. ⌜ ((k : ℕ) → r ≡ Accepted k → Coverage (now (program .entry)) (now (claim .entry)) (callsIn k (now (memory .exit)))) ⌝ }
+{
+    let mut t = [0u64; 768];
+    check_by(program, claim, &mut t, memory)
+}

@@ -1,0 +1,129 @@
+-- From the walk by line to what `read` answers and leaves in the words. Assumes nothing.
+use mathlib.Core.Path.{_≡_, refl, sym, ap, subst, _∙_}
+use mathlib.Core.List.{List, [], _∷_}
+use mathlib.Core.Option.{Option, none, some}
+use Prim.Native.Nat.{ℕ, _≤_, _<_}
+use native.Mathlib.Omega.{arith}
+use lib.Dec.{eqb}
+use lib.ListN.{length, drop}
+use borrow.Author.Tests.{lt-ltb, le-ltb, eq-eqb, ne-eqb, eqb-true, eqb-false}
+use Rattle.text.specs.Hex.{Line, linesOf, whole}
+use Rattle.text.proofs.Cases.{by-test}
+use Rattle.program.specs.Program.{Program}
+use Rattle.slots.specs.Layout.{noMasks}
+use Rattle.claim.specs.declared.Answer.{Answer}
+use Rattle.claim.specs.declared.Answer.the-variants.{Read, TooLong}
+use Rattle.claim.specs.declared.Cursor.{Cursor}
+use Rattle.claim.specs.Frames.{Due, framesDue}
+use Rattle.claim.specs.ReadClaim.{refused, taken, known, isDue, head, masksFrom, Progress, stopped, reached, onward, takeFrame, takeFrames, ended, readClaim, readingNumber, readingValues, masksAfter, numberOf, valuesOf}
+use Rattle.claim.specs.Inside.{progressOf, lastNumber, answerOf}
+
+-- ---- the numbers of refusals by line
+abbrev Numbered : Progress → Type 0
+Numbered (stopped number line) = (10 ≤ number) × (number ≤ 13)
+Numbered (reached ls n ws) = Unit {0}
+
+onward-numbered : (ls : List Line) (n : ℕ) (o : Option (List ℕ)) → Numbered (onward ls n o)
+onward-numbered ls n none = (omega arith, omega arith)
+onward-numbered ls n (some ws) = tt
+
+frame-numbered : (p : Program) (d : Due) (s : Progress) → Numbered s → Numbered (takeFrame p d s)
+unfolding takeFrame
+frame-numbered p d (stopped number line) h = h
+frame-numbered p d (reached [] n ws) h = (omega arith, omega arith)
+frame-numbered p d (reached (l ∷ ls) n ws) h =
+    by-test (whole l)
+    (λ a.
+    by-test (known l)
+    (λ b.
+    by-test (isDue d l)
+    (λ c. rw (a, b, c) (onward-numbered ls n (masksFrom p l (head d) (d .slots) ws)))
+    (λ c. rw (a, b, c) (omega arith, omega arith)))
+    (λ b. rw (a, b) (omega arith, omega arith)))
+    (λ a. rw a (omega arith, omega arith))
+
+frames-numbered : (p : Program) (ds : List Due) (s : Progress) → Numbered s → Numbered (takeFrames p ds s)
+frames-numbered p [] s h = h
+frames-numbered p (d ∷ ds) s h = frames-numbered p ds (takeFrame p d s) (frame-numbered p d s h)
+
+-- each number has its answer
+answer-of : (number line : ℕ) → 10 ≤ number → number ≤ 13
+    → (numberOf (answerOf number line) ≡ number) × (valuesOf (answerOf number line) ≡ line ∷ [])
+answer-of number line low high =
+    by-test (eqb number 10)
+    (λ a. rw a (sym (eqb-true number 10 a), refl))
+    (λ a.
+    by-test (eqb number 11)
+    (λ b. rw (a, b) (sym (eqb-true number 11 b), refl))
+    (λ b.
+    by-test (eqb number 12)
+    (λ c. rw (a, b, c) (sym (eqb-true number 12 c), refl))
+    (λ c. rw (a, b, c) (omega (arith, eqb-false number 10 a, eqb-false number 11 b, eqb-false number 12 c), refl))))
+
+-- ---- after the frames due
+last-is : (ls : List Line) (n : ℕ) (ws : List ℕ) → (lastNumber ls ≡ 0 → ⊥)
+    → (ended (reached ls n ws) ≡ refused (lastNumber ls) n) × (10 ≤ lastNumber ls) × (lastNumber ls ≤ 13)
+unfolding ended
+last-is [] n ws h = absurd (h refl)
+last-is (l ∷ ls) n ws h =
+    by-test (whole l)
+    (λ a.
+    by-test (known l)
+    (λ b. rw (a, b) (refl, omega arith, omega arith))
+    (λ b. rw (a, b) (refl, omega arith, omega arith)))
+    (λ a. rw a (refl, omega arith, omega arith))
+
+last-none : (ls : List Line) (n : ℕ) (ws : List ℕ) → lastNumber ls ≡ 0 → ended (reached ls n ws) ≡ taken ws
+unfolding ended
+last-none [] n ws h = refl
+last-none (l ∷ ls) n ws h =
+    by-test (whole l)
+    (λ a. by-test (known l) (λ b. absurd (omega (arith, rw (a, b) at h))) (λ b. absurd (omega (arith, rw (a, b) at h))))
+    (λ a. absurd (omega (arith, rw a at h)))
+
+-- ---- what the promise says, of a program, a text, the words before and after, and the answer
+abbrev pub Told : Program → List ℕ → List ℕ → List ℕ → Answer → Type 0
+Told p text before after a =
+    ((numberOf a ≡ readingNumber (readClaim p text)) × (valuesOf a ≡ readingValues (readClaim p text)))
+    × (after ≡ masksAfter (readClaim p text) before)
+
+module _ (p : Program) (text before : List ℕ) where
+  told-refused : (number line : ℕ) (a : Answer) → readClaim p text ≡ refused number line → 10 ≤ number → number ≤ 13
+      → a ≡ answerOf number line → Told p text before before a
+  told-refused number line a e low high f =
+      let r = answer-of number line low high in
+      rw (e, f) ((r .0, r .1), refl)
+
+  pub told-long : 262144 < length text → Told p text before before TooLong
+  unfolding readClaim
+  told-long h = rw (lt-ltb 262144 (length text) h) ((refl, refl), refl)
+
+  module _ (short : length text ≤ 262144) (c : Cursor) (ws none : List ℕ) (empty : none ≡ noMasks)
+      (w : progressOf text c ws ≡ takeFrames p (framesDue p) (reached (linesOf text) 1 none)) where
+    read-is : readClaim p text ≡ ended (progressOf text c ws)
+    unfolding readClaim
+    read-is = rw (le-ltb 262144 (length text) short, w, empty)
+
+    pub told-stopped : (a : Answer) → (c .number ≡ 0 → ⊥) → a ≡ answerOf (c .number) (c .line) → Told p text before before a
+    unfolding ended
+    told-stopped a h f =
+        let s : progressOf text c ws ≡ stopped (c .number) (c .line) = rw (ne-eqb (c .number) 0 h) in
+        let k : Numbered (stopped (c .number) (c .line)) =
+        subst Numbered (sym w ∙ s) (frames-numbered p (framesDue p) (reached (linesOf text) 1 none) tt) in
+        told-refused (c .number) (c .line) a (read-is ∙ ap ended s) (k .0) (k .1) f
+
+    module _ (z : c .number ≡ 0) (more : ℕ) (e : more ≡ lastNumber (linesOf (drop (c .at) text))) where
+      reached-is : progressOf text c ws ≡ reached (linesOf (drop (c .at) text)) (c .line) ws
+      reached-is = rw (eq-eqb (c .number) 0 z)
+
+      pub told-more : (a : Answer) → (more ≡ 0 → ⊥) → a ≡ answerOf more (c .line) → Told p text before before a
+      told-more a h f =
+          let r = last-is (linesOf (drop (c .at) text)) (c .line) ws (λ y. h (e ∙ y)) in
+          told-refused (lastNumber (linesOf (drop (c .at) text))) (c .line) a (read-is ∙ ap ended reached-is ∙ r .0) (r .1) (r .2)
+          (rw e at f)
+
+      pub told-read : more ≡ 0 → Told p text before ws Read
+      told-read y =
+          let r : readClaim p text ≡ taken ws =
+          read-is ∙ ap ended reached-is ∙ last-none (linesOf (drop (c .at) text)) (c .line) ws (sym e ∙ y) in
+          rw r ((refl, refl), refl)

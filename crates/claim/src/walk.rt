@@ -1,0 +1,157 @@
+// The walk by line: the frames due, in their order, each taken where the cursor stands.
+use super::Cursor;
+use super::Part;
+use super::due;
+use super::line;
+use text::LineRead;
+ghost use mathlib.Core.Path.{_≡_};
+ghost use lib.ListN.{drop};
+ghost use Rattle.text.specs.Hex.{linesOf};
+ghost use Rattle.program.specs.Lists.{joined};
+ghost use Rattle.program.specs.Tables.{programIn};
+ghost use Rattle.claim.specs.Frames.{inner, frameAt, partDue, framesDue};
+ghost use Rattle.claim.specs.ReadClaim.{reached, takeFrame, takeFrames};
+ghost use Rattle.claim.specs.Inside.{dueAt, Placed, progressOf, lastNumber};
+
+// Takes the line where the cursor stands as the frame at these two numbers.
+fn take_frame(
+    t: &[u64; 768],
+    text: &[u8],
+    from: Cursor,
+    k: Part,
+    a: usize,
+    b: usize,
+    w: &mut [u64; 9712],
+) -> Cursor
+    requires { ⌜ Placed from (now text) ⌝ }
+    ensures place { λ r. ⌜ Placed r (now (text .entry)) ⌝ }
+    ensures progress { λ r. ⌜ progressOf (now (text .entry)) r (now (w .exit)) ≡ takeFrame (programIn (now (t .entry))) (dueAt (programIn (now (t .entry))) k a b) (progressOf (now (text .entry)) from (now (w .entry))) ⌝ }
+{
+    if from.number != 0 {
+        return from;
+    }
+    let read = text::line_at(text, from.at);
+    match read {
+        LineRead::End => return Cursor {
+            number: 12,
+            at: from.at,
+            line: from.line,
+        },
+        LineRead::Broken => return Cursor {
+            number: 10,
+            at: from.at,
+            line: from.line,
+        },
+        LineRead::Whole(digits) => {
+            let number = line::take_line(t, text, from.at, digits, k, a, b, w);
+            if number != 0 {
+                return Cursor {
+                    number,
+                    at: from.at,
+                    line: from.line,
+                };
+            }
+            Cursor {
+                number: 0,
+                at: from.at + digits + 1,
+                line: from.line + 1,
+            }
+        }
+    }
+}
+
+// Takes the frame at these two numbers, if there is one.
+fn take_at(
+    t: &[u64; 768],
+    text: &[u8],
+    from: Cursor,
+    k: Part,
+    a: usize,
+    b: usize,
+    w: &mut [u64; 9712],
+) -> Cursor
+    requires { ⌜ Placed from (now text) ⌝ }
+    ensures place { λ r. ⌜ Placed r (now (text .entry)) ⌝ }
+    ensures progress { λ r. ⌜ progressOf (now (text .entry)) r (now (w .exit)) ≡ takeFrames (programIn (now (t .entry))) (frameAt (programIn (now (t .entry))) k a b) (progressOf (now (text .entry)) from (now (w .entry))) ⌝ }
+{
+    if due::present(t, k, a, b) {
+        return take_frame(t, text, from, k, a, b, w);
+    }
+    from
+}
+
+// Takes the frames of a part at its first number.
+fn take_row(
+    t: &[u64; 768],
+    text: &[u8],
+    from: Cursor,
+    k: Part,
+    a: usize,
+    w: &mut [u64; 9712],
+) -> Cursor
+    requires { ⌜ Placed from (now text) ⌝ }
+    ensures place { λ r. ⌜ Placed r (now (text .entry)) ⌝ }
+    ensures progress { λ r. ⌜ progressOf (now (text .entry)) r (now (w .exit)) ≡ takeFrames (programIn (now (t .entry))) (joined (inner (programIn (now (t .entry))) k a) (frameAt (programIn (now (t .entry))) k a)) (progressOf (now (text .entry)) from (now (w .entry))) ⌝ }
+{
+    let n = due::inner(t, k, a);
+    let mut to = from;
+    let mut b: usize = 0;
+    while b < n {
+        to = take_at(t, text, to, k, a, b, &mut *w);
+        b += 1;
+    }
+    to
+}
+
+// Takes the frames of a part.
+fn take_part(t: &[u64; 768], text: &[u8], from: Cursor, k: Part, w: &mut [u64; 9712]) -> Cursor
+    requires { ⌜ Placed from (now text) ⌝ }
+    ensures place { λ r. ⌜ Placed r (now (text .entry)) ⌝ }
+    ensures progress { λ r. ⌜ progressOf (now (text .entry)) r (now (w .exit)) ≡ takeFrames (programIn (now (t .entry))) (partDue (programIn (now (t .entry))) k) (progressOf (now (text .entry)) from (now (w .entry))) ⌝ }
+{
+    let n = due::outer(t, k);
+    let mut to = from;
+    let mut a: usize = 0;
+    while a < n {
+        to = take_row(t, text, to, k, a, &mut *w);
+        a += 1;
+    }
+    to
+}
+
+// Takes all frames due.
+pub fn take_parts(t: &[u64; 768], text: &[u8], w: &mut [u64; 9712]) -> Cursor
+    ensures progress { λ r. ⌜ progressOf (now (text .entry)) r (now (w .exit)) ≡ takeFrames (programIn (now (t .entry))) (framesDue (programIn (now (t .entry)))) (reached (linesOf (now (text .entry))) 1 (now (w .entry))) ⌝ }
+{
+    let start = Cursor {
+        number: 0,
+        at: 0,
+        line: 1,
+    };
+    let addresses = take_part(t, text, start, Part::Address, &mut *w);
+    let fields = take_part(t, text, addresses, Part::Field, &mut *w);
+    let statics = take_part(t, text, fields, Part::Static, &mut *w);
+    let returned = take_part(t, text, statics, Part::Returned, &mut *w);
+    take_part(t, text, returned, Part::Leaving, w)
+}
+
+// The refusal's number of the line after the frames due: 0 where there is no line.
+pub fn after_last(text: &[u8], at: usize) -> usize
+    ensures value { λ r. ⌜ r ≡ lastNumber (linesOf (drop at (now (text .entry)))) ⌝ }
+{
+    let read = text::line_at(text, at);
+    match read {
+        LineRead::End => 0,
+        LineRead::Broken => 10,
+        LineRead::Whole(digits) => {
+            let kind = text::number_at(text, at, 2);
+            if kind < 17 {
+                return 11;
+            }
+            if 21 < kind {
+                return 11;
+            }
+            12
+        }
+    }
+}

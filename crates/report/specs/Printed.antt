@@ -1,0 +1,55 @@
+-- What the tool prints, by document 01, The tool. Definitions only.
+use mathlib.Core.Bool.{cond as pick}
+use mathlib.Core.List.{List, [], _∷_, _++_}
+use Prim.Native.Nat.{ℕ, zero, suc, _+_, _*_, _/_, _%_, min}
+use lib.Dec.{ltb}
+use lib.ListN.{getD}
+use Rattle.verdict.specs.declared.Verdict.{Verdict}
+use Rattle.verdict.specs.declared.Verdict.the-variants.{Accepted, Violated, Refused, Short}
+
+-- "It prints in hexadecimal", lowercase as its texts are: the digit of a number below 16
+unfoldable pub digitOf : ℕ → ℕ
+digitOf n = pick (ltb n 10) (48 + n) (87 + n)
+
+-- "two digits each": the low byte of a number
+abbrev pub two : ℕ → List ℕ
+two n = digitOf (n / 16 % 16) ∷ digitOf (n % 16) ∷ []
+
+-- "line (eight)": the low four bytes, the high byte first
+abbrev pub eight : ℕ → List ℕ
+eight n = two (n / 16777216) ++ two (n / 65536) ++ two (n / 256) ++ two n
+
+-- `00 00 01`: three numbers, two digits each, a space between, and the line end
+abbrev pub three : ℕ → ℕ → ℕ → List ℕ
+three a b c = two a ++ 32 ∷ two b ++ 32 ∷ two c ++ 10 ∷ []
+
+-- "each call has its own line": the first k calls, "a byte a number" in lent memory, three numbers a call
+unfoldable pub callLines : List ℕ → ℕ → List ℕ
+callLines memory zero = []
+callLines memory (suc k) =
+    callLines memory k ++ three (getD memory (3 * k) 0) (getD memory (3 * k + 1) 0) (getD memory (3 * k + 2) 0)
+
+-- `accepted` and its line end
+abbrev pub acceptedWord : List ℕ
+acceptedWord = 97 ∷ 99 ∷ 99 ∷ 101 ∷ 112 ∷ 116 ∷ 101 ∷ 100 ∷ 10 ∷ []
+
+-- `violated` and a space
+abbrev pub violatedWord : List ℕ
+violatedWord = 118 ∷ 105 ∷ 111 ∷ 108 ∷ 97 ∷ 116 ∷ 101 ∷ 100 ∷ 32 ∷ []
+
+-- `refused` and a space
+abbrev pub refusedWord : List ℕ
+refusedWord = 114 ∷ 101 ∷ 102 ∷ 117 ∷ 115 ∷ 101 ∷ 100 ∷ 32 ∷ []
+
+-- "`refused` number (two digits) line (eight)"
+abbrev pub refusedLine : ℕ → ℕ → List ℕ
+refusedLine number line = refusedWord ++ two number ++ 32 ∷ eight line ++ 10 ∷ []
+
+-- "`accepted` and the call list, or `violated` rule method address, two digits each, or `refused` number (two digits) line
+-- (eight)". No call list is longer than 16 methods of 32 addresses with 16 callees each. Too little memory is number 23
+-- and has no line: its line prints as 0
+abbrev pub printed : Verdict → List ℕ → List ℕ
+printed (Accepted count) memory = acceptedWord ++ callLines memory (min count 8192)
+printed (Violated rule method address) memory = violatedWord ++ three rule method address
+printed (Refused number line) memory = refusedLine number line
+printed Short memory = refusedLine 23 0

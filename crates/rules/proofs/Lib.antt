@@ -1,0 +1,7 @@
+pub mod Arguments
+pub mod Callees
+pub mod Dispatch
+pub mod Handlers
+pub mod Numbers
+pub mod Operand
+pub mod Receivers

@@ -1,0 +1,176 @@
+-- `rules::raise::raised` meets its contract. The loop's invariant: the rest is what the handlers before the next one do not catch, and rule 9 holds for what they do. Assumes nothing.
+use mathlib.Core.Path.{_≡_, sym, ap, _∙_}
+use mathlib.Core.Bool.{Bool, true, false, _&&_, _||_}
+use mathlib.Core.List.{List}
+use Prim.Native.Nat.{ℕ, _-_, _≤_, _<_}
+use native.Mathlib.Omega.{arith}
+use borrow.Author.Tests.{not-true, not-false}
+use Rattle.instruction.specs.Word.{pick}
+use Rattle.mask.specs.declared.Mask.{Mask}
+use Rattle.mask.specs.Mask.{has, subset}
+use lib.Dec.{ltb}
+use Rattle.program.specs.Program.{classCount, handlerCount, handlerTarget}
+use Rattle.program.specs.Tables.{programIn}
+use Rattle.program.proofs.Read.{classes-limit}
+use Rattle.flow.specs.Claim.{resultAt, leaving}
+use Rattle.flow.specs.Flows.{kept}
+use Rattle.flow.specs.Rules.{carried}
+use Rattle.slots.specs.Layout.{maskOf, claimIn}
+use Rattle.sets.specs.Sets.{setsOf}
+use Rattle.sets.specs.Inside.{classSet}
+use Rattle.sets.proofs.Words.{classes-has}
+use Rattle.rules.proofs.Handlers.{only-classes, same-raised, Rest, Held, rest-start, held-start, rest-more, held-more, broken-here, raised-is}
+use Rattle.rules.proofs.raise.raised.Statement.{statement}
+use Rattle.rules.proofs.raise.raised.Tie as tie
+
+all-classes : (t s : List ℕ) (classes : Mask) → classes ≡ classSet s → s ≡ setsOf (programIn t) → (k : ℕ) → has classes k ≡ ltb k (classCount (programIn t))
+all-classes t s classes e f k =
+    ap (λ (x : Mask). has x k) e ∙ ap (λ (ws : List ℕ). has (classSet ws) k) f ∙ classes-has (programIn t) (classes-limit t) k
+
+abbrev Inv-loop : tie.InvT-loop
+Inv-loop t w s m pc n rest₀ h₀ rest h =
+    (h ≤ n)
+    × Rest (programIn t) (claimIn w) m pc rest₀ h rest
+    × Held (programIn t) (claimIn w) m pc rest₀ h
+
+abbrev μ-loop : tie.MeasureT-loop
+μ-loop t w s m pc n rest₀ h₀ rest h = n - h
+
+handler-count-requires : tie.Need-handler-count-requires Inv-loop μ-loop
+handler-count-requires c κs = tt
+
+classes-requires : tie.Need-classes-requires Inv-loop μ-loop
+classes-requires c κs = tt
+
+common-requires : tie.Need-common-requires Inv-loop μ-loop
+common-requires c κs = tt
+
+loop-holds : tie.Need-loop-holds Inv-loop μ-loop
+loop-holds c =
+    let start = c .before .before .before in
+    let a = start .args in
+    let p = programIn (a .t .now) in
+    let cl = claimIn (a .w .now) in
+    let rest = c .common .result in (
+      omega arith,
+      rest-start p cl (a .m) (a .pc) rest
+          (only-classes p (a .mask) rest (c .before .classes .result) (c .common .ensures)
+          (all-classes (a .t .now) (a .s .now) (c .before .classes .result) (c .before .classes .ensures) (start .pre))),
+      held-start p cl (a .m) (a .pc) rest,
+    )
+
+caught-requires : tie.Need-caught-requires Inv-loop μ-loop
+caught-requires c κs = c .before .before .before .before .before .pre
+
+handler-target-requires : tie.Need-handler-target-requires Inv-loop μ-loop
+handler-target-requires c κs = tt
+
+goes-into-requires : tie.Need-goes-into-requires Inv-loop μ-loop
+goes-into-requires c κs = tt
+
+returns : tie.Need-returns Inv-loop μ-loop
+returns c =
+    let g = c .before in
+    let b = g .before .before .before .before in
+    let n = b .before .before .before in
+    let a = n .before .args in
+    let p = programIn (a .t .now) in
+    let cl = claimIn (a .w .now) in
+    let x = g .before .before .caught in
+    let no : subset (x .result) (maskOf 0) || (kept cl (carried p (a .m) (a .pc) (handlerTarget p (a .m) (b .loop .h))) && subset (x .result) (cl (resultAt (a .m) (handlerTarget p (a .m) (b .loop .h))))) ≡ false =
+    rw (← g .before .handler-target .ensures) (sym (g .goes-into .ensures) ∙ not-true _ (c .if1 .taken)) in
+    let rest = b .before .common .result in
+    sym
+    (broken-here p cl (a .m) (a .pc) rest (b .loop .h) (b .loop .rest) (x .result) (b .loop .inv .1) (x .ensures)
+    (omega (arith, n .handler-count .ensures))
+    no)
+    ∙ same-raised p (a .mask) rest (b .before .before .classes .result) (b .before .common .ensures)
+    (all-classes (a .t .now) (a .s .now) (b .before .before .classes .result) (b .before .before .classes .ensures) (n .before .pre))
+    cl
+    (a .m)
+    (a .pc)
+
+without-requires : tie.Need-without-requires Inv-loop μ-loop
+without-requires c κs = tt
+
+add-h : tie.Need-add-h Inv-loop μ-loop
+add-h c = omega arith
+
+loop-less : tie.Need-loop-less Inv-loop μ-loop
+loop-less c = omega arith
+
+loop-again : tie.Need-loop-again Inv-loop μ-loop
+loop-again c =
+    let g = c .before .before in
+    let b = g .before .before .before .before in
+    let n = b .before .before .before in
+    let a = n .before .args in
+    let p = programIn (a .t .now) in
+    let cl = claimIn (a .w .now) in
+    let x = g .before .before .caught in
+    let ok : subset (x .result) (maskOf 0) || (kept cl (carried p (a .m) (a .pc) (handlerTarget p (a .m) (b .loop .h))) && subset (x .result) (cl (resultAt (a .m) (handlerTarget p (a .m) (b .loop .h))))) ≡ true =
+    rw (← g .before .handler-target .ensures) (sym (g .goes-into .ensures) ∙ not-false _ (c .before .if1 .left)) in (
+      omega arith,
+      rest-more p cl (a .m) (a .pc) (b .before .common .result) (b .loop .h) (b .loop .rest) (x .result) (b .loop .inv .1) (x .ensures)
+          (c .without .result)
+          (c .without .ensures),
+      held-more p cl (a .m) (a .pc) (b .before .common .result) (b .loop .h) (b .loop .rest) (x .result) (b .loop .inv .1) (x .ensures)
+          (omega (arith, n .handler-count .ensures))
+          ok
+          (b .loop .inv .2),
+    )
+
+leaving-requires : tie.Need-leaving-requires Inv-loop μ-loop
+leaving-requires c κs = tt
+
+subset-requires : tie.Need-subset-requires Inv-loop μ-loop
+subset-requires c κs = tt
+
+first-requires : tie.Need-first-requires Inv-loop μ-loop
+first-requires c κs = tt
+
+returns-2 : tie.Need-returns-2 Inv-loop μ-loop
+returns-2 c =
+    let b = c .before .before .before .before in
+    let n = b .before .before .before in
+    let a = n .before .args in
+    let p = programIn (a .t .now) in
+    let cl = claimIn (a .w .now) in
+    let all : b .loop .h ≡ handlerCount p (a .m) = omega (arith, n .handler-count .ensures) in
+    let s = c .before .subset in
+    let rest = b .before .common .result in
+    raised-is p cl (a .m) (a .pc) rest (b .loop .rest)
+    (rw all at (b .loop .inv .1))
+    (rw all at (b .loop .inv .2))
+    (s .result)
+    (s .ensures ∙ ap (subset (b .loop .rest)) (c .before .before .leaving .ensures))
+    (c .first .result)
+    (c .first .ensures)
+    ∙ same-raised p (a .mask) rest (b .before .before .classes .result) (b .before .common .ensures)
+    (all-classes (a .t .now) (a .s .now) (b .before .before .classes .result) (b .before .before .classes .ensures) (n .before .pre))
+    cl
+    (a .m)
+    (a .pc)
+
+pub raised-spec : {M : Type 1} → statement M
+raised-spec =
+    tie.close
+    (tie.spec
+    Inv-loop
+    μ-loop
+    handler-count-requires
+    classes-requires
+    common-requires
+    loop-holds
+    caught-requires
+    handler-target-requires
+    goes-into-requires
+    returns
+    without-requires
+    add-h
+    loop-less
+    loop-again
+    leaving-requires
+    subset-requires
+    first-requires
+    returns-2)

@@ -1,0 +1,137 @@
+// Rules of calls (2, 6, 7, 9 and 10).
+use crate::raise;
+use crate::step::first;
+use mask::Mask;
+use operands::both;
+ghost use mathlib.Core.Path.{_≡_};
+ghost use mathlib.Core.Bool.{_&&_, _||_};
+ghost use Prim.Native.Nat.{ℕ, _<_};
+ghost use Rattle.instruction.specs.declared.Instruction.the-variants.{InvokeVirtual, InvokeStatic};
+ghost use Rattle.mask.specs.Mask.{has, every};
+ghost use Rattle.program.specs.Program.{methodCount};
+ghost use Rattle.program.specs.Tables.{programIn};
+ghost use Rattle.flow.specs.Flows.{some};
+ghost use Rattle.flow.specs.Rules.{rulesOf};
+ghost use Rattle.slots.specs.Layout.{claimIn};
+ghost use Rattle.sets.specs.Sets.{setsOf};
+ghost use Rattle.rules.specs.Broken.{brokenIn, calleeGiven, calleeReturned, leavesCallee};
+
+// What has come of the callees so far: whether rules 6 and 7 hold, and the classes that leave them.
+pub struct Callees {
+    pub given: bool,
+    pub returned: bool,
+    pub raised: Mask,
+}
+
+// The same with method q, if a class in the receiver's mask leads to it.
+fn take_callee(
+    t: &[u64; 768],
+    w: &[u64; 9712],
+    s: &[u64; 80],
+    m: usize,
+    pc: usize,
+    mask: Mask,
+    name: u8,
+    count: u8,
+    register: u8,
+    prior: Callees,
+    q: usize,
+) -> Callees
+    requires { ⌜ (pc < 32) × (now s ≡ setsOf (programIn (now t))) ⌝ }
+    ensures given { λ r. ⌜ r .given ≡ prior .given && calleeGiven (programIn (now (t .entry))) (claimIn (now (w .entry))) m pc mask name count register q ⌝ }
+    ensures returned { λ r. ⌜ r .returned ≡ prior .returned && calleeReturned (programIn (now (t .entry))) (claimIn (now (w .entry))) m pc mask name count q ⌝ }
+    ensures raised { λ r. ⌜ ((k : ℕ) → has (r .raised) k ≡ has (prior .raised) k || leavesCallee (programIn (now (t .entry))) (claimIn (now (w .entry))) mask name count k q) ⌝ }
+{
+    let receivers = sets::leading(t, s, mask, name as usize, count as usize, q);
+    if receivers.subset(Mask { bits: 0 }) {
+        return prior;
+    }
+    let parameter = slots::register(w, q, 0, carry::locals(t, q));
+    let arguments = carry::arguments(t, w, m, pc, q, 1, count, register);
+    let returned = slots::returned(w, q).subset(slots::result(w, m, pc + 1));
+    let others = prior.raised;
+    Callees {
+        given: both(prior.given, both(receivers.subset(parameter), arguments)),
+        returned: both(prior.returned, returned),
+        raised: others.join(slots::leaving(w, q)),
+    }
+}
+
+// What comes of all callees of a virtual call.
+fn take_callees(
+    t: &[u64; 768],
+    w: &[u64; 9712],
+    s: &[u64; 80],
+    m: usize,
+    pc: usize,
+    mask: Mask,
+    name: u8,
+    count: u8,
+    register: u8,
+) -> Callees
+    requires { ⌜ (pc < 32) × (now s ≡ setsOf (programIn (now t))) ⌝ }
+    ensures given { λ r. ⌜ r .given ≡ every (methodCount (programIn (now (t .entry)))) (calleeGiven (programIn (now (t .entry))) (claimIn (now (w .entry))) m pc mask name count register) ⌝ }
+    ensures returned { λ r. ⌜ r .returned ≡ every (methodCount (programIn (now (t .entry)))) (calleeReturned (programIn (now (t .entry))) (claimIn (now (w .entry))) m pc mask name count) ⌝ }
+    ensures raised { λ r. ⌜ ((k : ℕ) → has (r .raised) k ≡ some (methodCount (programIn (now (t .entry)))) (leavesCallee (programIn (now (t .entry))) (claimIn (now (w .entry))) mask name count k)) ⌝ }
+{
+    let n = program::method_count(t);
+    let none = Mask { bits: 0 };
+    let mut so_far = Callees {
+        given: true,
+        returned: true,
+        raised: none,
+    };
+    let mut q: usize = 0;
+    while q < n {
+        so_far = take_callee(t, w, s, m, pc, mask, name, count, register, so_far, q);
+        q += 1;
+    }
+    so_far
+}
+
+pub fn by_receiver(
+    t: &[u64; 768],
+    w: &[u64; 9712],
+    s: &[u64; 80],
+    m: usize,
+    pc: usize,
+    name: u8,
+    count: u8,
+    register: u8,
+) -> usize
+    requires { ⌜ (pc < 32) × (now s ≡ setsOf (programIn (now t))) ⌝ }
+    ensures value { λ r. ⌜ r ≡ brokenIn (claimIn (now (w .entry))) (rulesOf (programIn (now (t .entry))) m pc (InvokeVirtual name count register)) ⌝ }
+{
+    let mask = slots::register(w, m, pc, register as usize);
+    let callees = take_callees(t, w, s, m, pc, mask, name, count, register);
+    let raised = raise::raised(t, w, s, m, pc, callees.raised);
+    first(
+        carry::carried(t, w, m, pc, pc + 1),
+        2,
+        first(callees.given, 6, first(callees.returned, 7, raised)),
+    )
+}
+
+pub fn by_method(
+    t: &[u64; 768],
+    w: &[u64; 9712],
+    s: &[u64; 80],
+    m: usize,
+    pc: usize,
+    method: u8,
+    count: u8,
+    register: u8,
+) -> usize
+    requires { ⌜ (pc < 32) × (now s ≡ setsOf (programIn (now t))) ⌝ }
+    ensures value { λ r. ⌜ r ≡ brokenIn (claimIn (now (w .entry))) (rulesOf (programIn (now (t .entry))) m pc (InvokeStatic method count register)) ⌝ }
+{
+    let q = method as usize;
+    let given = carry::arguments(t, w, m, pc, q, 0, count, register);
+    let returned = slots::returned(w, q).subset(slots::result(w, m, pc + 1));
+    let raised = raise::raised(t, w, s, m, pc, slots::leaving(w, q));
+    first(
+        carry::carried(t, w, m, pc, pc + 1),
+        2,
+        first(given, 6, first(returned, 7, raised)),
+    )
+}
