@@ -5,7 +5,7 @@ use mathlib.Core.Bool.{Bool, true, false, _&&_, _||_}
 use mathlib.Core.List.{[], _∷_, _++_}
 use Prim.Native.Nat.{ℕ, _+_, _*_, _≤_}
 use native.Mathlib.Omega.{arith}
-use lib.Dec.{eqb}
+use lib.Dec.{eqb, leb}
 use lib.ListN.{length, length-append}
 use Rattle.text.specs.Hex.{Line}
 use Rattle.instruction.specs.Word.{pick}
@@ -52,6 +52,13 @@ module _ (p : Program) where
   frame-present Leaving a b = refl
 
   module _ (a b : ℕ) where
+    pub due-known : (k : Part) → leb 17 (frameOf p k a b .kind) && leb (frameOf p k a b .kind) 21 ≡ true
+    due-known Address = refl
+    due-known Field = refl
+    due-known Static = refl
+    due-known Returned = refl
+    due-known Leaving = refl
+
     pub due-slots : (k : Part) → dueAt p k a b .slots ≡ tab (frameOf p k a b .registers) (registerAt a b) ++ (lastSlot k a b ∷ [])
     due-slots Address = refl
     due-slots Field = refl

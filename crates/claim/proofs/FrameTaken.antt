@@ -1,13 +1,14 @@
 -- One frame taken at a cursor: each way that it ends. Assumes nothing.
 use mathlib.Core.Path.{_≡_, sym, _∙_}
+use mathlib.Core.Bool.{true}
 use mathlib.Core.List.{List, [], _∷_}
 use Prim.Native.Nat.{ℕ, _+_, _≤_, _<_}
 use native.Mathlib.Omega.{arith}
-use lib.ListN.{length, drop}
+use lib.ListN.{length, take, drop}
 use borrow.Author.Tests.{eq-eqb, ne-eqb}
 use Rattle.text.specs.declared.LineRead.the-variants.{Whole, Broken, End}
-use Rattle.text.specs.Hex.{Line, linesOf, lineReadOf}
-use Rattle.text.proofs.Lines.{next-line, broken-line, no-line}
+use Rattle.text.specs.Hex.{Line, allDigits, linesOf, lineReadOf}
+use Rattle.text.proofs.Lines.{whole-digits, next-line, broken-line, no-line}
 use Rattle.program.specs.Program.{Program}
 use Rattle.reader.specs.Inside.{lineAt}
 use Rattle.claim.specs.declared.Cursor.{Cursor}
@@ -38,10 +39,10 @@ module _ (p : Program) (d : Due) (text : List ℕ) (c : Cursor) (ws : List ℕ) 
         rw (progress-is (l ∷ ls) h, w)
 
     module _ (n : ℕ) (e : lineReadOf (linesOf (drop (c .at) text)) ≡ Whole n) where
-      pub frame-room : (2 ≤ n) × (c .at + n < length text)
+      pub frame-room : (2 ≤ n) × (c .at + n < length text) × (allDigits (take n (drop (c .at) text)) ≡ true)
       frame-room =
           let w = next-line text (c .at) n e in
-          (omega (arith, w .1, w .2), w .0)
+          (omega (arith, w .1, w .2), w .0, whole-digits (take n (drop (c .at) text)) (w .4))
 
       frame-whole : takeFrame p d (progressOf text c ws)
           ≡ takeWhole p d (lineAt text (c .at) n) (linesOf (drop (c .at + n + 1) text)) (c .line) ws

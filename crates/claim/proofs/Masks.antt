@@ -11,7 +11,7 @@ use Rattle.instruction.specs.Word.{pick}
 use Rattle.mask.specs.Mask.{subset}
 use Rattle.program.specs.Lists.{tab, Every}
 use Rattle.program.specs.Program.{Program}
-use Rattle.program.proofs.Lists.{tab-cong, tab-from}
+use Rattle.program.proofs.Lists.{length-tab, tab-cong, tab-from}
 use Rattle.flow.specs.Claim.{Slot}
 use Rattle.slots.specs.Layout.{placeOf, maskOf}
 use Rattle.reader.specs.Inside.{lineAt}
@@ -77,6 +77,24 @@ module _ (text : List ℕ) (allowed : ℕ) where
     masks-end r l =
         let nothing : n - r ≡ 0 = omega arith in
         rw nothing
+
+    -- one mask more after n that came to these words
+    masks-last : (us : List ℕ) (x : Slot) → masksIn text at allowed (tab n f) us ≡ some ws
+        → masksIn text at allowed (tab n f ++ (x ∷ [])) us
+        ≡ pick (may (at + 16 * n)) (some (set ws (placeOf x) (maskIn text (at + 16 * n)))) none
+    masks-last us x done = masks-pass (tab n f) (x ∷ []) at us ws done ∙ rw (length-tab n f)
+
+    -- the same from its bits, a flag that says whether it may stand, and the words
+    pub masks-finished : (us : List ℕ) (x : Slot) → masksIn text at allowed (tab n f) us ≡ some ws
+        → (t : Bool) (b i : ℕ) (vs : List ℕ) → b ≡ maskIn text (at + 16 * n) → t ≡ subset (maskOf b) (maskOf allowed)
+        → i ≡ placeOf x → vs ≡ pick t (set ws i b) ws
+        → pick t (some vs) none ≡ masksIn text at allowed (tab n f ++ (x ∷ [])) us
+    masks-finished us x done t b i vs bits flag place new =
+        let may-stand : may (at + 16 * n) ≡ t = sym (flag ∙ ap (λ (k : ℕ). subset (maskOf k) (maskOf allowed)) bits) in
+        by-test t
+        (λ y. let e : vs ≡ set ws (placeOf x) (maskIn text (at + 16 * n)) = rw (y, place, bits) at new in
+        rw (y, masks-last us x done, may-stand ∙ y, e))
+        (λ y. rw (y, masks-last us x done, may-stand ∙ y))
 
     module _ (r : ℕ) (l : r < n) where
       pub masks-next : may (at + 16 * r) ≡ true

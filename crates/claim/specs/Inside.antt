@@ -4,7 +4,7 @@ use mathlib.Core.Bool.{Bool, true, _&&_, _||_}
 use mathlib.Core.List.{List, [], _∷_, _++_}
 use mathlib.Core.Option.{Option, none, some}
 use Prim.Native.Nat.{ℕ, _+_, _*_, _-_, _^_, _≤_}
-use lib.Dec.{eqb, ltb}
+use lib.Dec.{eqb, leb, ltb}
 use lib.ListN.{length, drop, set}
 use Rattle.text.specs.Hex.{Line, linesOf, whole, numberOf as hexOf, digitsAt}
 use Rattle.instruction.specs.Word.{pick}
@@ -104,6 +104,10 @@ Placed c text = (c .at ≤ length text) × (c .line ≤ c .at + 1)
 abbrev pub progressOf : List ℕ → Cursor → List ℕ → Progress
 progressOf text c ws =
     pick (eqb (c .number) 0) (reached (linesOf (drop (c .at) text)) (c .line) ws) (stopped (c .number) (c .line))
+
+-- the refusal's number of a whole line of this kind that is not the frame due
+abbrev pub otherNumber : ℕ → ℕ
+otherNumber kind = pick (leb 17 kind && leb kind 21) 12 11
 
 -- the refusal's number of the line after the frames due: 0 where there is no line
 abbrev pub lastNumber : List Line → ℕ

@@ -3,26 +3,38 @@ use super::Part;
 use super::due;
 use mask::Mask;
 ghost use mathlib.Core.Path.{_≡_};
-ghost use mathlib.Core.List.{List};
+ghost use mathlib.Core.Bool.{true};
+ghost use mathlib.Core.List.{List, [], _∷_, _++_};
 ghost use mathlib.Core.Option.{some, none};
-ghost use Prim.Native.Nat.{ℕ, _+_, _≤_, _<_};
-ghost use lib.ListN.{length, set};
-ghost use Rattle.text.specs.Hex.{Line};
+ghost use Prim.Native.Nat.{ℕ, _+_, _*_, _≤_, _<_};
+ghost use lib.ListN.{length, take, drop, set};
+ghost use Rattle.text.specs.Hex.{Line, allDigits};
 ghost use Rattle.instruction.specs.Word.{pick};
 ghost use Rattle.mask.specs.Mask.{subset};
 ghost use Rattle.program.specs.Lists.{tab};
 ghost use Rattle.program.specs.Tables.{programIn};
-ghost use Rattle.flow.specs.Claim.{registerAt};
-ghost use Rattle.slots.specs.Layout.{maskOf};
+ghost use Rattle.flow.specs.Claim.{Slot, registerAt};
+ghost use Rattle.slots.specs.Layout.{placeOf, maskOf};
 ghost use Rattle.reader.specs.Inside.{lineAt};
 ghost use Rattle.claim.specs.Inside.{dueAt, maskIn, masksIn, takeWhole, afterLine};
 
-// Takes one mask of a line into words; false, and nothing, where it has a bit that is not allowed.
-fn take_mask(text: &[u8], at: usize, allowed: u64, place: usize, w: &mut [u64; 9712]) -> bool
-    ensures value { λ r. ⌜ r ≡ subset (maskOf (maskIn (now (text .entry)) at)) (maskOf allowed) ⌝ }
-    ensures memory { λ r. ⌜ now (w .exit) ≡ pick r (set (now (w .entry)) place (maskIn (now (text .entry)) at)) (now (w .entry)) ⌝ }
+// The bits of the mask after another: the same where the digits repeat, as they mostly do. The line's digits are tested.
+fn mask_after(text: &[u8], at: usize, bits: u64) -> u64
+    requires { ⌜ (at + 32 ≤ length (now text)) × (allDigits (take 32 (drop at (now text))) ≡ true) × (bits ≡ maskIn (now text) at) ⌝ }
+    ensures value { λ r. ⌜ r ≡ maskIn (now (text .entry)) (at + 16) ⌝ }
 {
-    let bits = text::number_at(text, at, 16);
+    if text::repeats(text, at) {
+        bits
+    } else {
+        text::sixteen_at(text, at + 16)
+    }
+}
+
+// Puts a mask into words; false, and nothing, where it has a bit that is not allowed.
+fn put_mask(w: &mut [u64; 9712], place: usize, bits: u64, allowed: u64) -> bool
+    ensures value { λ r. ⌜ r ≡ subset (maskOf bits) (maskOf allowed) ⌝ }
+    ensures memory { λ r. ⌜ now (w .exit) ≡ pick r (set (now (w .entry)) place bits) (now (w .entry)) ⌝ }
+{
     let m = Mask { bits };
     let all = Mask { bits: allowed };
     if !m.subset(all) {
@@ -32,33 +44,31 @@ fn take_mask(text: &[u8], at: usize, allowed: u64, place: usize, w: &mut [u64; 9
     true
 }
 
-// Takes the masks of n registers; false where one has a bit that is not allowed.
-fn take_registers(
+// Takes the masks of n registers, and one more at a place of its own; false where one has a bit that is not allowed. The line's digits
+// are tested.
+fn take_masks(
     text: &[u8],
     at: usize,
     n: usize,
     allowed: u64,
     m: usize,
     pc: usize,
+    last: usize,
     w: &mut [u64; 9712],
 ) -> bool
-    requires { ⌜ (at ≤ length (now text)) × (n ≤ 255) ⌝ }
-    ensures masks { λ r. ⌜ pick r (some (now (w .exit))) none ≡ masksIn (now (text .entry)) at allowed (tab n (registerAt m pc)) (now (w .entry)) ⌝ }
+    requires { ⌜ (at + 16 * (n + 1) ≤ length (now text)) × (n ≤ 255) × (allDigits (take (16 * (n + 1)) (drop at (now text))) ≡ true) ⌝ }
+    ensures masks { λ r. ⌜ ((s : Slot) → last ≡ placeOf s → pick r (some (now (w .exit))) none ≡ masksIn (now (text .entry)) at allowed (tab n (registerAt m pc) ++ (s ∷ [])) (now (w .entry))) ⌝ }
 {
+    let mut bits = text::sixteen_at(text, at);
     let mut r: usize = 0;
     while r < n {
-        if !take_mask(
-            text,
-            at + 16 * r,
-            allowed,
-            slots::register_place(m, pc, r),
-            &mut *w,
-        ) {
+        if !put_mask(&mut *w, slots::register_place(m, pc, r), bits, allowed) {
             return false;
         }
+        bits = mask_after(text, at + 16 * r, bits);
         r += 1;
     }
-    true
+    put_mask(w, last, bits, allowed)
 }
 
 // Takes a whole line as the frame at these two numbers: 0, or the number of its refusal.
@@ -72,25 +82,14 @@ pub fn take_line(
     b: usize,
     w: &mut [u64; 9712],
 ) -> usize
-    requires { ⌜ (2 ≤ digits) × (at + digits < length (now text)) ⌝ }
+    requires { ⌜ (2 ≤ digits) × (at + digits < length (now text)) × (allDigits (take digits (drop at (now text))) ≡ true) ⌝ }
     ensures progress { λ r. ⌜ ((ls : List Line) → (n : ℕ) → afterLine r ls n (now (w .exit)) ≡ takeWhole (programIn (now (t .entry))) (dueAt (programIn (now (t .entry))) k a b) (lineAt (now (text .entry)) at digits) ls n (now (w .entry))) ⌝ }
 {
-    let kind = text::number_at(text, at, 2);
-    if kind < 17 {
-        return 11;
-    }
-    if 21 < kind {
-        return 11;
-    }
     let f = due::frame_of(t, k, a, b);
     if !due::is_due(text, at, digits, f, a, b) {
-        return 12;
+        return due::other_number(text, at);
     }
-    let masks = at + f.head;
-    if !take_registers(text, masks, f.registers, f.allowed, a, b, &mut *w) {
-        return 13;
-    }
-    if !take_mask(text, masks + 16 * f.registers, f.allowed, f.last, w) {
+    if !take_masks(text, at + f.head, f.registers, f.allowed, a, b, f.last, w) {
         return 13;
     }
     0

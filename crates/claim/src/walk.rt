@@ -143,15 +143,6 @@ pub fn after_last(text: &[u8], at: usize) -> usize
     match read {
         LineRead::End => 0,
         LineRead::Broken => 10,
-        LineRead::Whole(digits) => {
-            let kind = text::number_at(text, at, 2);
-            if kind < 17 {
-                return 11;
-            }
-            if 21 < kind {
-                return 11;
-            }
-            12
-        }
+        LineRead::Whole(digits) => due::other_number(text, at),
     }
 }

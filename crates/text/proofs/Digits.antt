@@ -1,7 +1,7 @@
 -- Digits and other bytes: the tests of a digit as one equation, a list of digits with one more, and the run that starts with
 -- digits. Assumes nothing.
 use mathlib.Core.Path.{_≡_, refl, sym, _∙_}
-use mathlib.Core.Bool.{true, false, _&&_, _||_, and-assoc, and-true, and-false}
+use mathlib.Core.Bool.{true, _&&_, _||_, and-assoc, and-true, and-false}
 use mathlib.Core.List.{List, [], _∷_, _++_}
 use Prim.Native.Nat.{ℕ, zero, suc, _+_, _-_, _<_, _≤_}
 use native.Mathlib.Numerals.{add-one}
@@ -47,6 +47,25 @@ digits-halves s at n d =
     rw (← drop-drop n at s) (take-add n n (drop at s)) in
     both-true (allDigits (take n (drop at s))) (allDigits (take n (drop (at + n) s)))
     (sym (digits-append (take n (drop at s)) (take n (drop (at + n) s))) ∙ rw halves at d)
+
+-- the digits inside the first d
+digits-within : (i n d : ℕ) (xs : List ℕ) → i + n ≤ d → allDigits (take d xs) ≡ true → allDigits (take n (drop i xs)) ≡ true
+unfolding allDigits
+digits-within i zero d xs l h = refl
+digits-within zero (suc n) zero xs l h = absurd (omega arith)
+digits-within zero (suc n) (suc d) [] l h = refl
+digits-within zero (suc n) (suc d) (x ∷ xs) l h =
+    let b = both-true (ltb (digitOf x) 16) (allDigits (take d xs)) h in
+    rw (b .0, digits-within zero n d xs (omega arith) (b .1))
+digits-within (suc i) (suc n) zero xs l h = absurd (omega arith)
+digits-within (suc i) (suc n) (suc d) [] l h = refl
+digits-within (suc i) (suc n) (suc d) (x ∷ xs) l h =
+    digits-within i (suc n) d xs (omega arith) (both-true (ltb (digitOf x) 16) (allDigits (take d xs)) h .1)
+
+-- d digits at a place: n of them from the i-th on
+pub digits-inside : (s : List ℕ) (at d i n : ℕ) → i + n ≤ d → allDigits (take d (drop at s)) ≡ true
+    → allDigits (take n (drop (at + i) s)) ≡ true
+digits-inside s at d i n l h = rw (← drop-drop i at s) (digits-within i n d (drop at s) l h)
 
 -- a digit at the end
 digits-snoc : (ds : List ℕ) (d : ℕ) → allDigits (ds ++ (d ∷ [])) ≡ allDigits ds && ltb (digitOf d) 16

@@ -1,3 +1,4 @@
+pub mod AtOnce
 pub mod Cases
 pub mod Digits
 pub mod Examples

@@ -12,7 +12,7 @@ use borrow.Author.Tests.{not-true, lt-ltb, eq-eqb, ne-eqb, ltb-true, ltb-false, 
 use Rattle.text.specs.Hex.{pick, digitOf, allDigits, Line, onto, linesOf, whole, lineReadOf}
 use Rattle.text.specs.Run.{digitRun}
 use Rattle.text.specs.declared.LineRead.the-variants.{Whole, Broken, End}
-use Rattle.text.proofs.Cases.{by-test, never}
+use Rattle.text.proofs.Cases.{by-test, never, both-true}
 -- with the bound of a number, for readers that cite the laws of this file
 pub use Rattle.text.proofs.Numbers.{number-bound}
 
@@ -160,6 +160,11 @@ end-inside s i e =
     (ltb i (length s))
     (λ t. ltb-true i (length s) t)
     (λ t. never (omega (arith, e, List·getD-eq-default s 0 (ltb-false i (length s) t))))
+
+-- a whole line has digits only
+pub whole-digits : (ds : List ℕ) → whole (record { bytes = ds; ended = true }) ≡ true → allDigits ds ≡ true
+unfolding whole
+whole-digits ds w = both-true (allDigits ds) (ltb 0 (length ds) && eqb (length ds % 2) 0) w .0
 
 -- At a place of a text, where a run of n digits stands.
 module _ (s : List ℕ) (at n : ℕ) (run : n ≡ digitRun (drop at s)) where

@@ -1,8 +1,8 @@
 -- Eight digits in one word: a mask takes part of each byte, so that the packed word is the number of the digits. Assumes nothing.
-use mathlib.Core.Path.{_≡_, refl, sym, ap, _∙_}
-use mathlib.Core.Bool.{true, false, _&&_}
+use mathlib.Core.Path.{_≡_, refl, ap, _∙_}
+use mathlib.Core.Bool.{true}
 use mathlib.Core.List.{List, [], _∷_}
-use Prim.Native.Nat.{ℕ, _+_, _*_, _-_, _/_, _%_, _<_, _^_}
+use Prim.Native.Nat.{ℕ, _+_, _*_, _-_, _/_, _%_, _<_}
 use native.Mathlib.Omega.{arith}
 use lib.ListN.{length}
 use lib.Bits.{bitAnd, and-block, and-mask, and-high, and-zero-r}
@@ -35,7 +35,7 @@ and-lanes (b ∷ bs) (m ∷ ms) p q e =
     ∙ ap (λ (n : ℕ). n * 256 + bitAnd b m) (and-lanes bs ms (p .1) (q .1) (omega arith))
 
 -- a digit: a byte, and its value by its bits
-digit-bits : (b : ℕ) → ltb (digitOf b) 16 ≡ true → (b < 256) × (b % 16 + 9 * (b / 64 % 2) ≡ digitOf b)
+pub digit-bits : (b : ℕ) → ltb (digitOf b) 16 ≡ true → (b < 256) × (b % 16 + 9 * (b / 64 % 2) ≡ digitOf b)
 unfolding digitOf
 digit-bits b d =
     by-test

@@ -2,11 +2,12 @@
 mod words; // words.rt: eight digits in one word
 
 ghost use mathlib.Core.Path.{_≡_};
-ghost use Prim.Native.Nat.{ℕ, _+_, _-_, _≤_, min};
+ghost use Prim.Native.Nat.{_+_, _-_, _≤_, min};
 ghost use lib.Dec.{ltb};
 ghost use lib.ListN.{length, take, drop};
 ghost use Rattle.text.specs.Hex.{digitOf, allDigits, linesOf, lineReadOf, numberOf, digitsAt};
 ghost use Rattle.text.specs.Run.{digitRun};
+ghost use Rattle.text.specs.Words.{valueOf, twoAt, sixteenAt, repeatsAt};
 
 // What stands at a place of a text.
 pub enum LineRead {
@@ -158,4 +159,47 @@ pub fn number_at(text: &[u8], at: usize, count: usize) -> u64
         }
     }
     first(text, at, n)
+}
+
+// What a byte says, as a digit.
+fn value(b: u8) -> u64
+    ensures value { λ r. ⌜ r ≡ valueOf b ⌝ }
+{
+    (b % 16 + 9 * (b / 64 % 2)) as u64
+}
+
+// What the 2 bytes at a place say, as digits; 0 where fewer stand there. It does not test them: if both are digits, this is their number.
+pub fn two_at(text: &[u8], at: usize) -> u64
+    ensures value { λ r. ⌜ r ≡ twoAt (now (text .entry)) at ⌝ }
+{
+    if at < text.len() {
+        if text.len() - at >= 2 {
+            return value(text[at]) * 16 + value(text[at + 1]);
+        }
+    }
+    0
+}
+
+// What the 16 bytes at a place say, as digits; 0 where fewer stand there. It does not test them: if all are digits, this is their number.
+pub fn sixteen_at(text: &[u8], at: usize) -> u64
+    ensures value { λ r. ⌜ r ≡ sixteenAt (now (text .entry)) at ⌝ }
+{
+    if at < text.len() {
+        if text.len() - at >= 16 {
+            return words::sixteen(text, at);
+        }
+    }
+    0
+}
+
+// Whether the 16 bytes at a place stand there again after them.
+pub fn repeats(text: &[u8], at: usize) -> bool
+    ensures value { λ r. ⌜ r ≡ repeatsAt (now (text .entry)) at ⌝ }
+{
+    if at < text.len() {
+        if text.len() - at >= 32 {
+            return words::repeats(text, at);
+        }
+    }
+    false
 }

@@ -1,10 +1,8 @@
 // Eight digits in one word: read, valued and packed at once.
 ghost use mathlib.Core.Path.{_≡_};
-ghost use mathlib.Core.Bool.{true};
-ghost use Prim.Native.Nat.{_+_, _≤_, _<_};
+ghost use Prim.Native.Nat.{_+_, _%_, _≤_, _<_};
 ghost use lib.ListN.{length, take, drop};
-ghost use Rattle.text.specs.Hex.{allDigits, numberOf};
-ghost use Rattle.text.specs.Words.{wordOf, valuesOf, pairsOf, quadsOf, eightOf};
+ghost use Rattle.text.specs.Words.{wordOf, valuesOf, pairsOf, quadsOf, eightOf, packedAt, sixteenOf, sameWords};
 
 // A byte as a word.
 fn wide(b: u8) -> u64
@@ -59,18 +57,32 @@ fn packed(v: u64) -> u64
     quads % 4294967296 * 65536 + quads / 4294967296
 }
 
-// The number of the 8 digits at a place.
-fn number(text: &[u8], at: usize) -> u64
-    requires { ⌜ (at + 8 ≤ length (now text)) × (allDigits (take 8 (drop at (now text))) ≡ true) ⌝ }
-    ensures value { λ r. ⌜ r ≡ numberOf (take 8 (drop at (now (text .entry)))) ⌝ }
+// What the 8 bytes at a place say, as digits.
+fn half(text: &[u8], at: usize) -> u64
+    requires { ⌜ at + 8 ≤ length (now text) ⌝ }
+    ensures value { λ r. ⌜ r ≡ packedAt (now (text .entry)) at % 4294967296 ⌝ }
+    ensures range { λ r. ⌜ r < 4294967296 ⌝ }
 {
-    packed(eight(text, at))
+    packed(eight(text, at)) % 4294967296
 }
 
-// The number of the 16 digits at a place.
+// What the 16 bytes at a place say, as digits.
 pub fn sixteen(text: &[u8], at: usize) -> u64
-    requires { ⌜ (at + 16 ≤ length (now text)) × (allDigits (take 16 (drop at (now text))) ≡ true) ⌝ }
-    ensures value { λ r. ⌜ r ≡ numberOf (take 16 (drop at (now (text .entry)))) ⌝ }
+    requires { ⌜ at + 16 ≤ length (now text) ⌝ }
+    ensures value { λ r. ⌜ r ≡ sixteenOf (now (text .entry)) at ⌝ }
 {
-    number(text, at) * 4294967296 + number(text, at + 8)
+    half(text, at) * 4294967296 + half(text, at + 8)
+}
+
+// Whether the 16 bytes at a place stand there again after them.
+pub fn repeats(text: &[u8], at: usize) -> bool
+    requires { ⌜ at + 32 ≤ length (now text) ⌝ }
+    ensures value { λ r. ⌜ r ≡ sameWords (now (text .entry)) at (at + 16) ⌝ }
+{
+    let next = at + 16;
+    if eight(text, at) == eight(text, next) {
+        eight(text, at + 8) == eight(text, next + 8)
+    } else {
+        false
+    }
 }

@@ -1,6 +1,6 @@
 -- `text::block` meets its contract. The invariant: `all` says whether the first `i` bytes are digits. The measure is how many bytes
 -- are left. Assumes nothing.
-use mathlib.Core.Path.{_≡_, refl, sym, _∙_}
+use mathlib.Core.Path.{_≡_, refl, sym}
 use Prim.Native.Nat.{_-_, _≤_}
 use native.Mathlib.Omega.{arith}
 use lib.ListN.{take, drop}

@@ -2,6 +2,7 @@
 use mathlib.Core.Path.{_≡_, sym, _∙_}
 use native.Mathlib.Omega.{arith}
 use Rattle.text.proofs.Numbers.{number-whole}
+use Rattle.text.proofs.AtOnce.{sixteen-number}
 use Rattle.text.proofs.number_at.Statement.{statement}
 use Rattle.text.proofs.number_at.Tie as tie
 
@@ -12,14 +13,17 @@ block-requires : tie.Need-block-requires
 block-requires c κs = omega arith
 
 sixteen-requires : tie.Need-sixteen-requires
-sixteen-requires c κs = (omega arith, sym (c .before .block .ensures) ∙ c .if2 .taken)
+sixteen-requires c κs = omega arith
 
 returns : tie.Need-returns
 returns c =
     let a = c .before .before .before .before .before .before .args in
     let width = c .before .before .before .before .width in
     let n : 16 ≡ width .result = omega (arith, c .before .before .before .if1 .taken) in
-    c .sixteen .ensures ∙ number-whole (a .text .now) (a .at) 16 (a .count) (n ∙ width .ensures)
+    let digits = sym (c .before .before .block .ensures) ∙ c .before .if2 .taken in
+    c .sixteen .ensures
+    ∙ sixteen-number (a .text .now) (a .at) (omega arith) digits
+    ∙ number-whole (a .text .now) (a .at) 16 (a .count) (n ∙ width .ensures)
 
 first-requires : tie.Need-first-requires
 first-requires c κs = (omega arith, omega arith)

@@ -1,8 +1,7 @@
 -- `claim::walk::after_last` meets its contract. Assumes nothing.
 use mathlib.Core.Path.{sym, _∙_}
-use Rattle.claim.proofs.LineKinds.{low-unknown, high-unknown, kind-known, last-end, last-broken, last-whole}
+use Rattle.claim.proofs.LineKinds.{other-line, last-end, last-broken, last-whole}
 use borrow.Author.Needs.{needs}
-use native.Mathlib.Omega.{arith}
 use Rattle.claim.proofs.walk.after_last.Statement.{statement}
 use Rattle.claim.proofs.walk.after_last.Tie as tie
 
@@ -18,52 +17,28 @@ enum-told-2 c = c .match .keys2
 enum-known-read : tie.Need-enum-known-read
 enum-known-read c = search needs
 
-number-at-requires : tie.Need-number-at-requires
-number-at-requires c κs = tt
+other-number-requires : tie.Need-other-number-requires
+other-number-requires c κs = tt
 
 returns : tie.Need-returns
 returns c =
-    let a = c .before .before .before .before .before .before .before .args in
-    let line-at = c .before .before .before .before .before .line-at in
-    let read = c .before .before .before .read in
-    let (two, e) = last-whole (a .text .now) (a .at) (read .given .0 .0)
-    (sym (line-at .ensures) ∙ read .given .1) in sym
-    (e ∙ rw (low-unknown (a .text .now) (a .at) (read .given .0 .0) two (c .before .number-at .result)
-    (c .before .number-at .ensures) (omega (arith, c .if1 .taken))))
-
-returns-2 : tie.Need-returns-2
-returns-2 c =
-    let a = c .before .before .before .before .before .before .before .before .args in
-    let line-at = c .before .before .before .before .before .before .line-at in
-    let read = c .before .before .before .before .read in
-    let number-at = c .before .before .number-at in
-    let (two, e) = last-whole (a .text .now) (a .at) (read .given .0 .0)
-    (sym (line-at .ensures) ∙ read .given .1) in sym
-    (e ∙ rw (high-unknown (a .text .now) (a .at) (read .given .0 .0) two (number-at .result) (number-at .ensures)
-    (omega (arith, c .before .if1 .left)) (omega (arith, c .if2 .taken))))
-
-returns-3 : tie.Need-returns-3
-returns-3 c =
     let a = c .before .before .before .before .args in
     let line-at = c .before .before .line-at in
     sym (last-end (a .text .now) (a .at) (sym (line-at .ensures) ∙ c .enum-told .given .1))
 
-returns-4 : tie.Need-returns-4
-returns-4 c =
+returns-2 : tie.Need-returns-2
+returns-2 c =
     let a = c .before .before .before .before .args in
     let line-at = c .before .before .line-at in
     sym (last-broken (a .text .now) (a .at) (sym (line-at .ensures) ∙ c .enum-told2 .given .1))
 
-returns-5 : tie.Need-returns-5
-returns-5 c =
-    let a = c .before .before .before .before .before .before .before .before .args in
-    let line-at = c .before .before .before .before .before .before .line-at in
-    let read = c .before .before .before .before .read in
-    let number-at = c .before .before .number-at in
-    let (two, e) = last-whole (a .text .now) (a .at) (read .given .0 .0)
-    (sym (line-at .ensures) ∙ read .given .1) in sym
-    (e ∙ rw (kind-known (a .text .now) (a .at) (read .given .0 .0) two (number-at .result) (number-at .ensures)
-    (omega (arith, c .before .if1 .left)) (omega (arith, c .if2 .left))))
+returns-3 : tie.Need-returns-3
+returns-3 c =
+    let a = c .before .before .before .before .before .before .args in
+    let line-at = c .before .before .before .before .line-at in
+    let read = c .before .before .read in
+    let (two, e) = last-whole (a .text .now) (a .at) (read .given .0 .0) (sym (line-at .ensures) ∙ read .given .1) in
+    c .other-number .ensures ∙ other-line (a .text .now) (a .at) (read .given .0 .0) two ∙ sym e
 
 pub after-last-spec : {M : Type 1} → statement M
 after-last-spec =
@@ -73,9 +48,7 @@ after-last-spec =
     enum-told
     enum-told-2
     enum-known-read
-    number-at-requires
+    other-number-requires
     returns
     returns-2
-    returns-3
-    returns-4
-    returns-5)
+    returns-3)

@@ -1,8 +1,7 @@
 -- `text::words::packed` meets its contract: each mask bounds what it leaves, so that no sum wraps. Assumes nothing.
 use mathlib.Core.Path.{refl}
-use Prim.Native.Nat.{_+_, _*_, _/_}
 use native.Mathlib.Omega.{arith}
-use lib.Bits.{bitAnd, and-le-r}
+use lib.Bits.{and-le-r}
 use Rattle.text.specs.Words.{valuesOf, pairsOf, quadsOf, eightOf}
 use Rattle.text.proofs.words.packed.Statement.{statement}
 use Rattle.text.proofs.words.packed.Tie as tie

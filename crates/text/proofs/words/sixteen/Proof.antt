@@ -1,49 +1,28 @@
--- `text::words::sixteen` meets its contract: the number of each half. Assumes nothing.
-use mathlib.Core.Path.{sym}
-use Prim.Native.Nat.{_+_}
+-- `text::words::sixteen` meets its contract: what each half says. Assumes nothing.
 use native.Mathlib.Omega.{arith}
-use lib.ListN.{drop}
-use Rattle.text.proofs.Digits.{digits-halves}
-use Rattle.text.proofs.Numbers.{number-below}
-use Rattle.text.proofs.WordLists.{number-halves}
+use Rattle.text.specs.Words.{sixteenOf}
 use Rattle.text.proofs.words.sixteen.Statement.{statement}
 use Rattle.text.proofs.words.sixteen.Tie as tie
 
-number-requires : tie.Need-number-requires
-number-requires c κs =
-    let a = c .before .args in
-    (omega arith, digits-halves (a .text .now) (a .at) 8 (c .before .pre .1) .0)
+half-requires : tie.Need-half-requires
+half-requires c κs = omega arith
 
 mul-result : tie.Need-mul-result
-mul-result c =
-    let a = c .before .before .args in
-    omega (arith, c .number .ensures, number-below (drop (a .at) (a .text .now)) 8)
+mul-result c = omega (arith, c .half .ensures .1)
 
-add-number : tie.Need-add-number
-add-number c = omega arith
+add-half : tie.Need-add-half
+add-half c = omega arith
 
-number-requires-2 : tie.Need-number-requires-2
-number-requires-2 c κs =
-    let start = c .before .before in
-    let a = start .args in
-    (omega arith, digits-halves (a .text .now) (a .at) 8 (start .pre .1) .1)
+half-requires-2 : tie.Need-half-requires-2
+half-requires-2 c κs = omega arith
 
 add-result : tie.Need-add-result
-add-result c =
-    let a = c .before .before .before .args in
-    omega (
-      arith,
-      c .before .number .ensures,
-      c .number2 .ensures,
-      number-below (drop (a .at) (a .text .now)) 8,
-      number-below (drop (a .at + 8) (a .text .now)) 8,
-    )
+add-result c = omega (arith, c .before .half .ensures .1, c .half2 .ensures .1)
 
 returns : tie.Need-returns
-returns c =
-    let a = c .before .before .before .args in
-    rw (c .before .number .ensures, c .number2 .ensures) (sym (number-halves (a .text .now) (a .at) 8 (omega arith)))
+unfolding sixteenOf
+returns c = rw (c .before .half .ensures .0, c .half2 .ensures .0)
 
 pub sixteen-spec : {M : Type 1} → statement M
 sixteen-spec =
-    tie.close (tie.spec number-requires mul-result add-number number-requires-2 add-result returns)
+    tie.close (tie.spec half-requires mul-result add-half half-requires-2 add-result returns)
