@@ -24,7 +24,8 @@ use Rattle.claim.specs.declared.Answer.{Answer as ClaimAnswer}
 use Rattle.claim.specs.ReadClaim.{Reading as ClaimReading, refused as claimRefused, taken as claimTaken, readClaim, readingNumber as claimNumber, readingValues as claimValues, masksAfter, numberOf as answerNumber, valuesOf as answerValues, lineOf as answerLine}
 use Rattle.claim.proofs.Answers.{line-is as claim-line-is, found-masks}
 use Rattle.rules.specs.declared.Broken.{Broken}
-use Rattle.rules.specs.Broken.{verdictIn}
+use Rattle.rules.specs.Broken.{brokenOf}
+use Rattle.rules.proofs.Numbers.{verdict-said}
 use Rattle.calls.specs.Bytes.{callBytes, callsIn, putCalls}
 use Rattle.calls.proofs.Bytes.{put-front, calls-back, call-list-short}
 use Rattle.checker.specs.Check.{Checking, turnedDown, judged, withClaim, withProgram, checking, answerFor, memoryAfter}
@@ -43,16 +44,16 @@ module _ (p : Program) (c : Claim) (before : List ℕ) where
   pub short-judged : length before < 24576 → Judged Short before
   short-judged few = rw (lt-ltb (length before) 24576 few) (refl, (refl, λ k e. never (cc)))
 
-  module _ (many : 24576 ≤ length before) (b : Broken) (v : verdictIn b ≡ verdict p c) where
+  module _ (many : 24576 ≤ length before) (b : Broken) (v : b ≡ brokenOf (verdict p c)) where
     pub broken-judged : (b .rule ≡ 11 → ⊥) → Judged (Violated (b .rule) (b .method) (b .address)) before
     broken-judged d =
-        let e : verdict p c ≡ violated (b .rule) (b .method) (b .address) = sym v ∙ rw (ne-eqb (b .rule) 11 d) in
+        let e : verdict p c ≡ violated (b .rule) (b .method) (b .address) = verdict-said p c b v ∙ rw (ne-eqb (b .rule) 11 d) in
         rw (le-ltb (length before) 24576 many, e) (refl, (refl, λ k f. never (cc)))
 
     pub kept-judged : b .rule ≡ 11 → Limited p → (count : ℕ) (after : List ℕ) → count ≡ length (callList p c)
         → after ≡ putCalls (callList p c) 0 before → Judged (Accepted count) after
     kept-judged z limited count after n w =
-        let e : verdict p c ≡ accepted = sym v ∙ rw (eq-eqb (b .rule) 11 z) in
+        let e : verdict p c ≡ accepted = verdict-said p c b v ∙ rw (eq-eqb (b .rule) 11 z) in
         let front = put-front (callList p c) before (omega (arith, call-list-short p c limited)) in
         let held : callsIn (length (callList p c)) after ≡ callList p c =
         ap (callsIn (length (callList p c))) (w ∙ front) ∙ calls-back (callList p c) (drop (3 * length (callList p c)) before) in

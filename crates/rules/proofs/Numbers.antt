@@ -1,4 +1,5 @@
--- The verdict on a list of rules by the number of its first broken one, and the first verdict of several. Assumes nothing.
+-- The verdict on a list of rules by the number of its first broken one, the first verdict of several, and a verdict by its rule and
+-- place. Assumes nothing.
 use mathlib.Core.Path.{_≡_, refl, sym, _∙_}
 use mathlib.Core.Bool.{true, false}
 use mathlib.Core.List.{List, [], _∷_}
@@ -10,12 +11,13 @@ use Rattle.instruction.specs.declared.Instruction.{Instruction}
 use Rattle.instruction.specs.declared.Instruction.the-variants.{Nop, Move, Const, Goto, If, IfZero, Binop, Unop, NewInstance, Iget, Iput, Sget, Sput, InvokeVirtual, InvokeStatic, MoveResult, MoveException, Return, ReturnVoid, Throw, InstanceOf, CheckCast}
 use Rattle.instruction.specs.Word.{pick}
 use Rattle.program.specs.Lists.{Every}
-use Rattle.program.specs.Program.{Program, instructionAt}
+use Rattle.program.specs.Program.{Program, methodCount, codeLength, instructionAt}
 use Rattle.flow.specs.Claim.{Claim}
 use Rattle.flow.specs.Flows.{kept}
 use Rattle.flow.specs.Rules.{Rule, rulesOf, rulesAt}
-use Rattle.flow.specs.Verdict.{Verdict, accepted, violated, firstOf, orElse, verdictOf}
-use Rattle.rules.specs.Broken.{noRule, brokenIn}
+use Rattle.flow.specs.Verdict.{Verdict, accepted, violated, firstOf, orElse, verdictOf, verdict}
+use Rattle.rules.specs.declared.Broken.{Broken}
+use Rattle.rules.specs.Broken.{noRule, brokenIn, addressVerdict, methodVerdict, brokenOf}
 
 -- rules with document 01's numbers
 abbrev Numbered : List Rule → Type 0
@@ -67,3 +69,30 @@ first-here zero g i r m pc l h e = absurd (omega arith)
 first-here (suc n) g zero r m pc l h e = rw e
 first-here (suc n) g (suc i) r m pc l h e =
     rw (h zero (omega arith)) (first-here n (λ j. g (suc j)) i r m pc (omega arith) (λ k less. h (suc k) (omega arith)) e)
+
+-- ---- a verdict by its rule and place
+abbrev Said : Verdict → Type 0
+Said v = (b : Broken) → b ≡ brokenOf v → v ≡ saying (b .rule) (b .method) (b .address)
+
+said : (n m pc : ℕ) → Said (saying n m pc)
+said n m pc = by-test (eqb n noRule) (λ t. rw t (λ b e. rw e)) (λ f. rw f (λ b e. rw (e, f)))
+
+said-either : (v w : Verdict) → Said v → Said w → Said (orElse v w)
+said-either accepted w first later = later
+said-either (violated n m pc) w first later = first
+
+said-first : (n : ℕ) (g : ℕ → Verdict) → ((k : ℕ) → Said (g k)) → Said (firstOf n g)
+said-first zero g h = said noRule 0 0
+said-first (suc n) g h =
+    said-either (g zero) (firstOf n (λ k. g (suc k))) (h zero) (said-first n (λ k. g (suc k)) (λ k. h (suc k)))
+
+module _ (p : Program) (c : Claim) where
+  address-said : (m pc : ℕ) → Said (addressVerdict p c m pc)
+  address-said m pc = rw (address-says p c m pc) (said (brokenIn c (rulesAt p m pc)) m pc)
+
+  pub method-said : (m : ℕ) → Said (methodVerdict p c m)
+  method-said m = said-first (codeLength p m) (addressVerdict p c m) (address-said m)
+
+  pub verdict-said : Said (verdict p c)
+  unfolding verdict
+  verdict-said = said-first (methodCount p) (methodVerdict p c) method-said

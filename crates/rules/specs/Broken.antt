@@ -66,6 +66,7 @@ addressVerdict p c m pc = verdictOf c m pc (rulesAt p m pc)
 abbrev pub methodVerdict : Program → Claim → ℕ → Verdict
 methodVerdict p c m = firstOf (codeLength p m) (addressVerdict p c m)
 
--- a verdict by its rule's number
-abbrev pub verdictIn : Broken → Verdict
-verdictIn b = pick (eqb (b .rule) noRule) accepted (violated (b .rule) (b .method) (b .address))
+-- the rule and place of a verdict; zeros for the place where no rule is broken
+abbrev pub brokenOf : Verdict → Broken
+brokenOf accepted = record { rule = noRule; method = 0; address = 0 }
+brokenOf (violated rule method address) = record { rule = rule; method = method; address = address }

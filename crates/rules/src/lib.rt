@@ -5,17 +5,17 @@ ghost use mathlib.Core.Path.{_≡_};
 ghost use Prim.Native.Nat.{ℕ, _<_};
 ghost use Rattle.program.specs.Tables.{programIn};
 ghost use Rattle.flow.specs.Rules.{rulesOf, rulesAt};
-ghost use Rattle.flow.specs.Verdict.{verdict};
+ghost use Rattle.flow.specs.Verdict.{accepted, verdict};
 ghost use Rattle.slots.specs.Layout.{claimIn};
 ghost use Rattle.sets.specs.Sets.{setsOf};
-ghost use Rattle.rules.specs.Broken.{brokenIn, atEntry, methodVerdict, verdictIn};
+ghost use Rattle.rules.specs.Broken.{brokenIn, atEntry, methodVerdict, brokenOf};
 
 mod call;
 mod raise;
 mod step;
 mod write;
 
-// The first broken rule and its place; rule 11 where none is broken.
+// The first broken rule and its place; rule 11 and zeros where none is broken.
 pub struct Broken {
     pub rule: usize,
     pub method: usize,
@@ -113,10 +113,21 @@ fn at_address(t: &[u64; 768], w: &[u64; 9712], s: &[u64; 80], m: usize, pc: usiz
     later
 }
 
+// No rule is broken.
+fn none() -> Broken
+    ensures value { λ r. ⌜ r ≡ brokenOf accepted ⌝ }
+{
+    Broken {
+        rule: 11,
+        method: 0,
+        address: 0,
+    }
+}
+
 // The first broken rule of a method.
 fn in_method(t: &[u64; 768], w: &[u64; 9712], s: &[u64; 80], m: usize) -> Broken
     requires { ⌜ now s ≡ setsOf (programIn (now t)) ⌝ }
-    ensures value { λ r. ⌜ verdictIn r ≡ methodVerdict (programIn (now (t .entry))) (claimIn (now (w .entry))) m ⌝ }
+    ensures value { λ r. ⌜ r ≡ brokenOf (methodVerdict (programIn (now (t .entry))) (claimIn (now (w .entry))) m) ⌝ }
 {
     let n = program::code_length(t, m);
     let mut pc: usize = 0;
@@ -131,17 +142,13 @@ fn in_method(t: &[u64; 768], w: &[u64; 9712], s: &[u64; 80], m: usize) -> Broken
         }
         pc += 1;
     }
-    Broken {
-        rule: 11,
-        method: 0,
-        address: 0,
-    }
+    none()
 }
 
 // The first broken rule of a claim, by the sets of the program's classes.
 fn first_by(t: &[u64; 768], w: &[u64; 9712], s: &[u64; 80]) -> Broken
     requires { ⌜ now s ≡ setsOf (programIn (now t)) ⌝ }
-    ensures value { λ r. ⌜ verdictIn r ≡ verdict (programIn (now (t .entry))) (claimIn (now (w .entry))) ⌝ }
+    ensures value { λ r. ⌜ r ≡ brokenOf (verdict (programIn (now (t .entry))) (claimIn (now (w .entry)))) ⌝ }
 {
     let n = program::method_count(t);
     let mut m: usize = 0;
@@ -152,16 +159,12 @@ fn first_by(t: &[u64; 768], w: &[u64; 9712], s: &[u64; 80]) -> Broken
         }
         m += 1;
     }
-    Broken {
-        rule: 11,
-        method: 0,
-        address: 0,
-    }
+    none()
 }
 
 // The first broken rule of a claim, by method, address and rule.
 pub fn first_broken(t: &[u64; 768], w: &[u64; 9712]) -> Broken
-    ensures value { λ r. ⌜ verdictIn r ≡ verdict (programIn (now (t .entry))) (claimIn (now (w .entry))) ⌝ }
+    ensures value { λ r. ⌜ r ≡ brokenOf (verdict (programIn (now (t .entry))) (claimIn (now (w .entry)))) ⌝ }
 {
     let mut s = [0u64; 80];
     sets::fill(t, &mut s);

@@ -9,8 +9,8 @@ use Rattle.program.specs.Tables.{programIn}
 use Rattle.flow.specs.Verdict.{accepted, violated, verdict}
 use Rattle.flow.proofs.Verdicts.{first-all}
 use Rattle.slots.specs.Layout.{claimIn}
-use Rattle.rules.specs.Broken.{methodVerdict}
-use Rattle.rules.proofs.Numbers.{first-here}
+use Rattle.rules.specs.Broken.{methodVerdict, brokenOf}
+use Rattle.rules.proofs.Numbers.{first-here, method-said}
 use Rattle.rules.proofs.first_by.Statement.{statement}
 use Rattle.rules.proofs.first_by.Tie as tie
 
@@ -39,9 +39,9 @@ returns c =
     let cl = claimIn (a .w .now) in
     let r = i .in-method .result in
     let l : b .loop .m < methodCount p = omega (arith, b .before .method-count .ensures) in
-    let rule = ne-eqb (r .rule) 11 (c .if1 .taken) in
-    let here : methodVerdict p cl (b .loop .m) ≡ violated (r .rule) (r .method) (r .address) = sym (i .in-method .ensures) ∙ rw rule in
-    rw rule
+    let here : methodVerdict p cl (b .loop .m) ≡ violated (r .rule) (r .method) (r .address) =
+    method-said p cl (b .loop .m) r (i .in-method .ensures) ∙ rw (ne-eqb (r .rule) 11 (c .if1 .taken)) in
+    ap brokenOf
     (sym (first-here (methodCount p) (methodVerdict p cl) (b .loop .m) (r .rule) (r .method) (r .address) l (b .loop .inv .1) here))
 
 add-m : tie.Need-add-m Inv-loop μ-loop
@@ -55,19 +55,26 @@ loop-again c =
     let i = c .before .before in
     let b = i .before .before in
     let a = b .before .before .args in
+    let r = i .in-method .result in
     let here : methodVerdict (programIn (a .t .now)) (claimIn (a .w .now)) (b .loop .m) ≡ accepted =
-    sym (i .in-method .ensures) ∙ rw (eq-eqb (i .in-method .result .rule) 11 (c .if1 .left)) in
+    method-said (programIn (a .t .now)) (claimIn (a .w .now)) (b .loop .m) r (i .in-method .ensures)
+    ∙ rw (eq-eqb (r .rule) 11 (c .if1 .left)) in
     (omega arith, λ k l. below-more _ _ (b .loop .inv .1) here k (omega arith))
+
+none-requires : tie.Need-none-requires Inv-loop μ-loop
+none-requires c κs = tt
 
 returns-2 : tie.Need-returns-2 Inv-loop μ-loop
 unfolding verdict
 returns-2 c =
-    let b = c .before in
+    let b = c .before .before in
     let a = b .before .before .args in
     let p = programIn (a .t .now) in
-    sym
+    c .none .ensures
+    ∙ ap brokenOf
+    (sym
     (first-all (methodCount p) (methodVerdict p (claimIn (a .w .now)))
-    (λ k l. b .loop .inv .1 k (omega (arith, b .before .method-count .ensures))))
+    (λ k l. b .loop .inv .1 k (omega (arith, b .before .method-count .ensures)))))
 
 pub first-by-spec : {M : Type 1} → statement M
 first-by-spec =
@@ -82,4 +89,5 @@ first-by-spec =
     add-m
     loop-less
     loop-again
+    none-requires
     returns-2)

@@ -10,7 +10,7 @@ use Rattle.program.proofs.Read.{in-code}
 use Rattle.flow.specs.Verdict.{accepted, violated}
 use Rattle.flow.proofs.Verdicts.{first-all}
 use Rattle.slots.specs.Layout.{claimIn}
-use Rattle.rules.specs.Broken.{addressVerdict}
+use Rattle.rules.specs.Broken.{addressVerdict, brokenOf}
 use Rattle.rules.proofs.Numbers.{address-says, first-here}
 use Rattle.rules.proofs.in_method.Statement.{statement}
 use Rattle.rules.proofs.in_method.Tie as tie
@@ -44,7 +44,7 @@ returns c =
     let l : b .loop .pc < codeLength p (a .m) = omega (arith, b .before .code-length .ensures) in
     let here : addressVerdict p cl (a .m) (b .loop .pc) ≡ violated r (a .m) (b .loop .pc) =
     address-says p cl (a .m) (b .loop .pc) ∙ rw (sym (c .before .at-address .ensures), ne-eqb r 11 (c .if1 .taken)) in
-    rw (ne-eqb r 11 (c .if1 .taken))
+    ap brokenOf
     (sym (first-here (codeLength p (a .m)) (addressVerdict p cl (a .m)) (b .loop .pc) r (a .m) (b .loop .pc) l (b .loop .inv .1) here))
 
 add-pc : tie.Need-add-pc Inv-loop μ-loop
@@ -64,14 +64,19 @@ loop-again c =
     address-says p cl (a .m) (b .loop .pc) ∙ rw (sym (c .before .at-address .ensures), eq-eqb r 11 (c .if1 .left)) in
     (omega arith, λ k l. below-more _ _ (b .loop .inv .1) here k (omega arith))
 
+none-requires : tie.Need-none-requires Inv-loop μ-loop
+none-requires c κs = tt
+
 returns-2 : tie.Need-returns-2 Inv-loop μ-loop
 returns-2 c =
-    let b = c .before in
+    let b = c .before .before in
     let a = b .before .before .args in
     let p = programIn (a .t .now) in
-    sym
+    c .none .ensures
+    ∙ ap brokenOf
+    (sym
     (first-all (codeLength p (a .m)) (addressVerdict p (claimIn (a .w .now)) (a .m))
-    (λ k l. b .loop .inv .1 k (omega (arith, b .before .code-length .ensures))))
+    (λ k l. b .loop .inv .1 k (omega (arith, b .before .code-length .ensures)))))
 
 pub in-method-spec : {M : Type 1} → statement M
 in-method-spec =
@@ -86,4 +91,5 @@ in-method-spec =
     add-pc
     loop-less
     loop-again
+    none-requires
     returns-2)
