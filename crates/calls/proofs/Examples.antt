@@ -1,7 +1,6 @@
 -- The call list as bytes by computation. Assumes nothing.
 use mathlib.Core.Path.{_≡_, refl}
 use mathlib.Core.List.{List, [], _∷_}
-use Prim.Native.Nat.{ℕ}
 use Rattle.machine.specs.History.{Made}
 use Rattle.calls.specs.Bytes.{callBytes, callsIn, putCalls}
 

@@ -26,7 +26,7 @@ use Rattle.claim.proofs.Answers.{line-is as claim-line-is, found-masks}
 use Rattle.rules.specs.declared.Broken.{Broken}
 use Rattle.rules.specs.Broken.{brokenOf}
 use Rattle.rules.proofs.Numbers.{verdict-said}
-use Rattle.calls.specs.Bytes.{callBytes, callsIn, putCalls}
+use Rattle.calls.specs.Bytes.{callsIn, putCalls}
 use Rattle.calls.proofs.Bytes.{put-front, calls-back, call-list-short}
 use Rattle.checker.specs.Check.{Checking, turnedDown, judged, withClaim, withProgram, checking, answerFor, memoryAfter}
 use Rattle.checker.specs.Coverage.{Coverage, Accepting}

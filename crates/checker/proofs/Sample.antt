@@ -11,21 +11,19 @@ use Rattle.text.specs.Hex.{linesOf, whole, allDigits, digitOf, numberFrom}
 use Rattle.instruction.specs.Word.{instructionOf, fieldsOf}
 use Rattle.mask.specs.Mask.{has, subset, hasNumber}
 use Rattle.search.specs.Search.{belowIn, hasField}
-use Rattle.reader.specs.Read.{readProgram}
 use Rattle.reader.proofs.Texts.{bytesOf}
 use Rattle.reader.proofs.Examples.{sample, sampleProgram, sample-reads}
-use Rattle.flow.specs.Covered.{Covered}
-use Rattle.flow.specs.Verdict.{Verdict, verdict, accepted, violated}
+use Rattle.flow.specs.Verdict.{Verdict, verdict, violated}
 use Rattle.flow.proofs.Samples.{made}
 use Rattle.slots.specs.Layout.{rowOf, placeOf, claimIn, noMasks}
 use Rattle.claim.specs.Allowed.{fullClaim}
 use Rattle.claim.specs.Frames.{partDue, framesDue}
 use Rattle.claim.specs.ReadClaim.{Reading, refused, taken, digitsFrom, known, isDue, masksFrom, takeFrame, ended, readClaim}
-use Rattle.claim.proofs.SampleClaim.{zeros, none, addresses, results, exceptions, sampleClaim, sampleWords, sample-taken, sample-accepted, sample-calls}
+use Rattle.claim.proofs.SampleClaim.{zeros, none, addresses, results, exceptions, sampleClaim, sample-taken, sample-accepted, sample-calls}
 use Rattle.verdict.specs.declared.Verdict.{Verdict as Answer}
 use Rattle.verdict.specs.declared.Verdict.the-variants.{Accepted, Violated, Refused, Short}
 use Rattle.calls.specs.Bytes.{callsIn}
-use Rattle.checker.specs.Check.{Checking, turnedDown, short, broken, kept, judged, withClaim, checking, answerFor, memoryAfter}
+use Rattle.checker.specs.Check.{Checking, turnedDown, short, broken, kept, withClaim, checking, answerFor, memoryAfter}
 use Rattle.checker.specs.Coverage.{Coverage}
 
 -- the clauses `verdict`, `memory` and `coverage` at two texts, lent memory before and after, and an answer

@@ -1,5 +1,5 @@
 -- What the checker answers, and what lent memory holds afterwards. Definitions only.
-use mathlib.Core.List.{List, _∷_, _++_}
+use mathlib.Core.List.{List, _++_}
 use Prim.Native.Nat.{ℕ, _*_}
 use lib.Dec.{ltb}
 use lib.ListN.{length, drop}

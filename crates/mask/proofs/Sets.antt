@@ -2,7 +2,7 @@
 -- nothing.
 use mathlib.Core.Path.{_≡_, refl, sym, ap, _∙_}
 use mathlib.Core.Bool.{Bool, true, false, false≢true, not, _&&_, _||_}
-use Prim.Native.Nat.{ℕ, zero, suc, _+_, _*_, _/_, _%_, _^_, _<_, _≤_, min, max}
+use Prim.Native.Nat.{ℕ, zero, suc, _+_, _*_, _/_, _%_, _^_, _<_, min, max}
 use native.Mathlib.Nat.{zero-div, pow-suc}
 use native.Mathlib.Omega.{arith}
 use lib.Bits.{bitAnd, bitOr, bitXor, differ, xor-step, xor-shr}
@@ -12,7 +12,7 @@ use borrow.Author.Tests.{lt-ltb}
 use Rattle.instruction.specs.Word.{pick}
 use Rattle.mask.specs.declared.Mask.{Mask}
 use Rattle.mask.specs.Mask.{has, every, subset, bitsWhere}
-use Rattle.mask.proofs.Laws.{bit, bit-and, bit-or, bit-half, has-bit, bit-has, and-false}
+use Rattle.mask.proofs.Laws.{bit, bit-and, bit-or, bit-half, and-false}
 
 -- ---- tests
 pub and-end : (a : Bool) → a && true ≡ a

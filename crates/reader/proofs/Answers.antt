@@ -1,7 +1,6 @@
 -- What the reader's answer says of its reading: the line of a refusal, and the program where there is none. Assumes nothing.
 use mathlib.Core.Path.{_≡_, refl, sym}
 use mathlib.Core.List.{[], _∷_}
-use Prim.Native.Nat.{ℕ}
 use native.Mathlib.Omega.{arith}
 use Rattle.text.proofs.Cases.{never}
 use Rattle.program.specs.Program.{Program}

@@ -3,11 +3,9 @@ use mathlib.Core.Path.{_≡_, refl, sym, _∙_}
 use mathlib.Core.Bool.{Bool, true, false}
 use mathlib.Core.List.{List, [], _∷_}
 use Prim.Native.Nat.{ℕ, _≤_}
-use native.Mathlib.Omega.{arith}
 use lib.ListN.{length}
 use Rattle.instruction.specs.Test.{most, _&_}
 use Rattle.instruction.proofs.Laws.{holds}
-use Rattle.program.specs.Program.{Program}
 use Rattle.program.specs.Tables.{tablesOf, programIn}
 use Rattle.program.proofs.Tables.{program-of-tables}
 use Rattle.reader.specs.declared.Answer.{Answer}

@@ -1,5 +1,4 @@
 -- `checker::judge` meets its contract. Assumes nothing.
-use native.Mathlib.Omega.{arith}
 use Rattle.program.specs.Tables.{programIn}
 use Rattle.slots.specs.Layout.{claimIn}
 use Rattle.calls.proofs.Limits.{in-limits}

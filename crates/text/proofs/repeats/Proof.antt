@@ -14,7 +14,9 @@ repeats-requires : tie.Need-repeats-requires
 repeats-requires c κs = omega arith
 
 returns : tie.Need-returns
-returns c = c .repeats .ensures ∙ rw (le-leb 32 _ (c .before .if2 .taken))
+returns c =
+    let a = c .before .before .before .before .args in
+    c .repeats .ensures ∙ rw (le-leb 32 (length (a .text .now) - a .at) (omega arith))
 
 returns-2 : tie.Need-returns-2
 returns-2 c =

@@ -14,7 +14,9 @@ sixteen-requires : tie.Need-sixteen-requires
 sixteen-requires c κs = omega arith
 
 returns : tie.Need-returns
-returns c = c .sixteen .ensures ∙ rw (le-leb 16 _ (c .before .if2 .taken))
+returns c =
+    let a = c .before .before .before .before .args in
+    c .sixteen .ensures ∙ rw (le-leb 16 (length (a .text .now) - a .at) (omega arith))
 
 returns-2 : tie.Need-returns-2
 returns-2 c =
