@@ -1,1 +1,1 @@
-pub mod Ask
+pub mod Fields

@@ -1,5 +1,6 @@
 pub mod Arguments
 pub mod Callees
+pub mod Classes
 pub mod Dispatch
 pub mod Handlers
 pub mod Numbers

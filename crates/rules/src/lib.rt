@@ -52,6 +52,7 @@ fn of_instruction(
         Instruction::Iget { to, object, field } => write::field_read(
             t,
             w,
+            s,
             m,
             pc,
             to,
@@ -62,7 +63,7 @@ fn of_instruction(
             from,
             object,
             field,
-        } => step::field_written(t, w, m, pc, from, object, field),
+        } => step::field_written(t, w, s, m, pc, from, object, field),
         Instruction::Sget { to, place } => write::static_read(t, w, m, pc, to, place),
         Instruction::Sput { from, place } => step::static_written(t, w, m, pc, from, place),
         Instruction::InvokeVirtual { name, count, first } => call::by_receiver(
@@ -86,7 +87,7 @@ fn of_instruction(
         Instruction::ReturnVoid => step::returned_void(t, w, m, pc),
         Instruction::Throw { from } => step::thrown(t, w, s, m, pc, from),
         Instruction::InstanceOf { to, .. } => write::numbers(t, w, m, pc, to),
-        Instruction::CheckCast { register, class } => write::cast(t, w, m, pc, register, class),
+        Instruction::CheckCast { register, class } => write::cast(t, w, s, m, pc, register, class),
     }
 }
 

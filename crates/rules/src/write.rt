@@ -1,6 +1,6 @@
 // Rules of instructions that write a register (2 and 4).
 use crate::step::first;
-use classes::Ask;
+use crate::step::with_field;
 use mask::Mask;
 use operands::both;
 ghost use mathlib.Core.Path.{_≡_};
@@ -14,6 +14,7 @@ ghost use Rattle.flow.specs.Claim.{registerAt, numberBit};
 ghost use Rattle.flow.specs.Flows.{numeric};
 ghost use Rattle.flow.specs.Rules.{writes, numbersInto, rulesOf};
 ghost use Rattle.slots.specs.Layout.{claimIn};
+ghost use Rattle.sets.specs.Sets.{setsOf};
 ghost use Rattle.rules.specs.Broken.{written, brokenIn};
 
 // Rules 2 and 4, where rule 4's test came out so.
@@ -101,22 +102,21 @@ pub fn made(t: &[u64; 768], w: &[u64; 9712], m: usize, pc: usize, to: u8, class:
 pub fn field_read(
     t: &[u64; 768],
     w: &[u64; 9712],
+    s: &[u64; 80],
     m: usize,
     pc: usize,
     to: u8,
     object: u8,
     field: u8,
 ) -> usize
-    requires { ⌜ pc < 32 ⌝ }
+    requires { ⌜ (pc < 32) × (now s ≡ setsOf (programIn (now t))) ⌝ }
     ensures value { λ r. ⌜ r ≡ brokenIn (claimIn (now (w .entry))) (rulesOf (programIn (now (t .entry))) m pc (Iget to object field)) ⌝ }
 {
     let mask = slots::register(w, m, pc, object as usize);
     let into = slots::register(w, m, pc + 1, to as usize);
-    let ask = Ask::FromField {
-        field: field as usize,
-        into: into.bits,
-    };
-    written(t, w, m, pc, to, classes::each_class(t, w, mask, ask))
+    let having = with_field(t, s, mask, field);
+    let read = classes::from_fields(w, having, field as usize, into);
+    written(t, w, m, pc, to, read)
 }
 
 pub fn static_read(t: &[u64; 768], w: &[u64; 9712], m: usize, pc: usize, to: u8, place: u8) -> usize
@@ -153,23 +153,27 @@ fn zero_passes(mask: Mask, into: Mask) -> bool
     if mask.has(62) { into.has(62) } else { true }
 }
 
-pub fn cast(t: &[u64; 768], w: &[u64; 9712], m: usize, pc: usize, register: u8, class: u8) -> usize
-    requires { ⌜ pc < 32 ⌝ }
+pub fn cast(
+    t: &[u64; 768],
+    w: &[u64; 9712],
+    s: &[u64; 80],
+    m: usize,
+    pc: usize,
+    register: u8,
+    class: u8,
+) -> usize
+    requires { ⌜ (pc < 32) × (now s ≡ setsOf (programIn (now t))) ⌝ }
     ensures value { λ r. ⌜ r ≡ brokenIn (claimIn (now (w .entry))) (rulesOf (programIn (now (t .entry))) m pc (CheckCast register class)) ⌝ }
 {
     let mask = slots::register(w, m, pc, register as usize);
     let into = slots::register(w, m, pc + 1, register as usize);
-    let ask = Ask::Cast {
-        class: class as usize,
-        into: into.bits,
-    };
-    let classes = classes::each_class(t, w, mask, ask);
+    let passing = mask.common(sets::below(s, class as usize));
     written(
         t,
         w,
         m,
         pc,
         register,
-        both(zero_passes(mask, into), classes),
+        both(zero_passes(mask, into), passing.subset(into)),
     )
 }

@@ -67,13 +67,13 @@ enum-known-i-9 : tie.Need-enum-known-i-9
 enum-known-i-9 c = c .match .keys10
 
 field-read-requires : tie.Need-field-read-requires
-field-read-requires c κs = omega arith
+field-read-requires c κs = c .before .before .before .pre
 
 enum-known-i-10 : tie.Need-enum-known-i-10
 enum-known-i-10 c = c .match .keys11
 
 field-written-requires : tie.Need-field-written-requires
-field-written-requires c κs = omega arith
+field-written-requires c κs = c .before .before .before .pre
 
 enum-known-i-11 : tie.Need-enum-known-i-11
 enum-known-i-11 c = c .match .keys12
@@ -139,7 +139,7 @@ enum-known-i-20 : tie.Need-enum-known-i-20
 enum-known-i-20 c = c .match .keys22
 
 cast-requires : tie.Need-cast-requires
-cast-requires c κs = omega arith
+cast-requires c κs = c .before .before .before .pre
 
 returns : tie.Need-returns
 returns c = rw (c .before .enum-told .given .1) (c .to-next .ensures)

@@ -1,22 +1,17 @@
 -- `rules::raise::caught` meets its contract. Assumes nothing.
 use mathlib.Core.Path.{_≡_, sym, ap, _∙_}
 use mathlib.Core.Bool.{Bool, false, _&&_}
-use mathlib.Core.List.{List}
 use Prim.Native.Nat.{ℕ, _≤_, _<_}
 use native.Mathlib.Omega.{arith}
 use lib.Dec.{ltb}
-use Rattle.mask.specs.declared.Mask.{Mask}
 use Rattle.mask.specs.Mask.{has}
 use Rattle.mask.proofs.Laws.{and-false}
 use Rattle.mask.proofs.Sets.{no-bit}
-use Rattle.program.specs.Program.{classCount, handlerFrom, handlerTo, handlerClass}
+use Rattle.program.specs.Program.{classCount, handlerFrom, handlerTo}
 use Rattle.program.specs.Tables.{programIn}
-use Rattle.program.proofs.Read.{classes-limit}
 use Rattle.search.specs.Search.{below, catches}
 use Rattle.search.proofs.Searches.{starts-later, ends-before, class-decides}
-use Rattle.sets.specs.Sets.{setsOf}
-use Rattle.sets.specs.Inside.{belowSet}
-use Rattle.sets.proofs.Words.{below-has}
+use Rattle.rules.proofs.Classes.{below-in}
 use Rattle.rules.proofs.raise.caught.Statement.{statement}
 use Rattle.rules.proofs.raise.caught.Tie as tie
 
@@ -55,13 +50,9 @@ returns-2 c k =
     let p = programIn (a .t .now) in
     let from : handlerFrom p (a .m) (a .h) ≤ a .pc = omega (arith, f .handler-from .ensures) in
     let to : a .pc < handlerTo p (a .m) (a .h) = omega (arith, o .handler-to .ensures) in
-    c .common .ensures k
-    ∙ ap (λ (x : Mask). has (a .mask) k && has x k) (c .before .below .ensures)
-    ∙ ap (λ (ws : List ℕ). has (a .mask) k && has (belowSet ws (c .before .before .handler-class .result)) k) (s .pre)
-    ∙ ap (λ (i : ℕ). has (a .mask) k && has (belowSet (setsOf p) i) k) (c .before .before .handler-class .ensures)
-    ∙ ap (_&&_ (has (a .mask) k))
-    (below-has p (classes-limit (a .t .now)) (handlerClass p (a .m) (a .h)) k
-    ∙ ap (_&&_ (ltb k (classCount p))) (sym (class-decides p (a .m) (a .pc) k (a .h) from to)))
+    below-in (a .t .now) (a .s .now) (s .pre) (a .mask) (c .before .below .result) (c .common .result) (c .common .ensures) (c .before .before .handler-class .result) (c .before .below .ensures) k
+    ∙ ap (λ (i : ℕ). has (a .mask) k && (ltb k (classCount p) && below p k i)) (c .before .before .handler-class .ensures)
+    ∙ ap (λ (t : Bool). has (a .mask) k && (ltb k (classCount p) && t)) (sym (class-decides p (a .m) (a .pc) k (a .h) from to))
 
 returns-3 : tie.Need-returns-3
 returns-3 c k =

@@ -1,6 +1,18 @@
 -- `rules::step::field_written` meets its contract. Assumes nothing.
+use mathlib.Core.Path.{_≡_, _∙_}
+use mathlib.Core.Bool.{not, _||_}
+use Prim.Native.Nat.{ℕ}
 use native.Mathlib.Omega.{arith}
 use native.Mathlib.Numerals.{add-one}
+use Rattle.mask.specs.Mask.{has, every, subset}
+use Rattle.program.specs.Program.{classCount}
+use Rattle.program.specs.Tables.{programIn}
+use Rattle.program.proofs.Read.{classes-limit}
+use Rattle.search.specs.Search.{hasField}
+use Rattle.flow.specs.Claim.{fieldOf}
+use Rattle.slots.specs.Layout.{claimIn}
+use Rattle.classes.specs.Fields.{intoFields}
+use Rattle.rules.proofs.Classes.{of-each}
 use Rattle.rules.proofs.step.field_written.Statement.{statement}
 use Rattle.rules.proofs.step.field_written.Tie as tie
 
@@ -10,8 +22,11 @@ register-requires c κs = tt
 register-requires-2 : tie.Need-register-requires-2
 register-requires-2 c κs = tt
 
-each-class-requires : tie.Need-each-class-requires
-each-class-requires c κs = tt
+with-field-requires : tie.Need-with-field-requires
+with-field-requires c κs = c .before .before .pre .1
+
+into-fields-requires : tie.Need-into-fields-requires
+into-fields-requires c κs = tt
 
 add-onward : tie.Need-add-onward
 add-onward c = omega arith
@@ -27,15 +42,38 @@ first-requires-2 c κs = tt
 
 returns : tie.Need-returns
 returns c =
+    let f = c .before .before .before in
+    let h = f .before in
+    let i = h .before in
+    let r = i .before in
+    let a = r .before .args in
+    let p = programIn (a .t .now) in
+    let cl = claimIn (a .w .now) in
+    let into : f .into-fields .result ≡ intoFields cl (h .with-field .result) (a .field) (i .register2 .result) = f .into-fields .ensures in
+    let stored : f .into-fields .result ≡ every (classCount p) (λ k. not (has (r .register .result) k) || (not (hasField p k (a .field)) || subset (i .register2 .result) (cl (fieldOf k (a .field))))) =
+    into
+    ∙ of-each (classCount p) (h .with-field .result) (r .register .result) (λ k. hasField p k (a .field)) (h .with-field .ensures) (classes-limit (a .t .now))
+    (λ k. subset (i .register2 .result) (cl (fieldOf k (a .field)))) in
     rw (
       c .first2 .ensures,
       c .before .first .ensures,
       c .before .before .onward .ensures,
-      c .before .before .before .each-class .ensures,
-      c .before .before .before .before .register2 .ensures,
-      c .before .before .before .before .before .register .ensures,
-      add-one (c .before .before .before .before .before .before .args .pc),
+      stored,
+      i .register2 .ensures,
+      r .register .ensures,
+      add-one (a .pc),
     )
 
 pub field-written-spec : {M : Type 1} → statement M
-field-written-spec = tie.close (tie.spec register-requires register-requires-2 each-class-requires add-onward onward-requires first-requires first-requires-2 returns)
+field-written-spec =
+    tie.close
+    (tie.spec
+    register-requires
+    register-requires-2
+    with-field-requires
+    into-fields-requires
+    add-onward
+    onward-requires
+    first-requires
+    first-requires-2
+    returns)

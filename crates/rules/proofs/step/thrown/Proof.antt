@@ -1,19 +1,16 @@
 -- `rules::step::thrown` meets its contract. Assumes nothing.
 use mathlib.Core.Path.{_≡_, ap, _∙_}
 use mathlib.Core.Bool.{_&&_}
-use mathlib.Core.List.{List}
 use Prim.Native.Nat.{ℕ}
 use lib.Dec.{ltb}
 use Rattle.mask.specs.declared.Mask.{Mask}
 use Rattle.mask.specs.Mask.{has}
 use Rattle.program.specs.Program.{classCount}
 use Rattle.program.specs.Tables.{programIn}
-use Rattle.program.proofs.Read.{classes-limit}
 use Rattle.search.specs.Search.{below}
 use Rattle.flow.specs.Claim.{registerAt}
 use Rattle.slots.specs.Layout.{claimIn}
-use Rattle.sets.specs.Inside.{belowSet}
-use Rattle.sets.proofs.Words.{below-has}
+use Rattle.rules.proofs.Classes.{below-in}
 use Rattle.rules.proofs.Handlers.{thrown-raised}
 use Rattle.rules.proofs.step.thrown.Statement.{statement}
 use Rattle.rules.proofs.step.thrown.Tie as tie
@@ -38,11 +35,8 @@ returns c =
     let p = programIn (a .t .now) in
     let cl = claimIn (a .w .now) in
     let bits : (k : ℕ) → has (o .common .result) k ≡ has (cl (registerAt (a .m) (a .pc) (a .from))) k && (ltb k (classCount p) && below p k 1) =
-    λ k. o .common .ensures k
-    ∙ ap (λ (x : Mask). has x k && has (o .before .below .result) k) (r .register .ensures)
-    ∙ ap (λ (x : Mask). has (cl (registerAt (a .m) (a .pc) (a .from))) k && has x k) (o .before .below .ensures)
-    ∙ ap (λ (ws : List ℕ). has (cl (registerAt (a .m) (a .pc) (a .from))) k && has (belowSet ws 1) k) (r .before .pre)
-    ∙ ap (_&&_ (has (cl (registerAt (a .m) (a .pc) (a .from))) k)) (below-has p (classes-limit (a .t .now)) 1 k) in
+    λ k. below-in (a .t .now) (a .s .now) (r .before .pre) (r .register .result) (o .before .below .result) (o .common .result) (o .common .ensures) 1 (o .before .below .ensures) k
+    ∙ ap (λ (x : Mask). has x k && (ltb k (classCount p) && below p k 1)) (r .register .ensures) in
     c .raised .ensures ∙ thrown-raised p cl (a .m) (a .pc) (a .from) (o .common .result) bits
 
 pub thrown-spec : {M : Type 1} → statement M

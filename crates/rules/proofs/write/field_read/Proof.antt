@@ -1,6 +1,17 @@
 -- `rules::write::field_read` meets its contract. Assumes nothing.
+use mathlib.Core.Path.{ap, _∙_}
+use Prim.Native.Nat.{ℕ}
 use native.Mathlib.Omega.{arith}
 use native.Mathlib.Numerals.{add-one}
+use Rattle.mask.specs.Mask.{subset}
+use Rattle.program.specs.Program.{classCount}
+use Rattle.program.specs.Tables.{programIn}
+use Rattle.program.proofs.Read.{classes-limit}
+use Rattle.search.specs.Search.{hasField}
+use Rattle.flow.specs.Claim.{fieldOf}
+use Rattle.slots.specs.Layout.{claimIn}
+use Rattle.rules.specs.Broken.{written}
+use Rattle.rules.proofs.Classes.{of-each}
 use Rattle.rules.proofs.write.field_read.Statement.{statement}
 use Rattle.rules.proofs.write.field_read.Tie as tie
 
@@ -13,21 +24,38 @@ add-register c = omega arith
 register-requires-2 : tie.Need-register-requires-2
 register-requires-2 c κs = tt
 
-each-class-requires : tie.Need-each-class-requires
-each-class-requires c κs = tt
+with-field-requires : tie.Need-with-field-requires
+with-field-requires c κs = c .before .before .pre .1
+
+from-fields-requires : tie.Need-from-fields-requires
+from-fields-requires c κs = tt
 
 written-requires : tie.Need-written-requires
 written-requires c κs = omega arith
 
 returns : tie.Need-returns
 returns c =
-    rw (
-      c .written .ensures,
-      c .before .each-class .ensures,
-      c .before .before .register2 .ensures,
-      c .before .before .before .register .ensures,
-      add-one (c .before .before .before .before .args .pc),
-    )
+    let h = c .before .before in
+    let i = h .before in
+    let r = i .before in
+    let a = r .before .args in
+    let p = programIn (a .t .now) in
+    let cl = claimIn (a .w .now) in
+    c .written .ensures
+    ∙ ap (written p cl (a .m) (a .pc) (a .to))
+    (c .before .from-fields .ensures
+    ∙ of-each (classCount p) (h .with-field .result) (r .register .result) (λ k. hasField p k (a .field)) (h .with-field .ensures) (classes-limit (a .t .now))
+    (λ k. subset (cl (fieldOf k (a .field))) (i .register2 .result)))
+    ∙ rw (i .register2 .ensures, r .register .ensures, add-one (a .pc))
 
 pub field-read-spec : {M : Type 1} → statement M
-field-read-spec = tie.close (tie.spec register-requires add-register register-requires-2 each-class-requires written-requires returns)
+field-read-spec =
+    tie.close
+    (tie.spec
+    register-requires
+    add-register
+    register-requires-2
+    with-field-requires
+    from-fields-requires
+    written-requires
+    returns)
