@@ -1,6 +1,6 @@
 -- What rules 4 and 5 ask of a field of each class in a set. Definitions only, and none that a reader of the public promises has to
 -- believe.
-use mathlib.Core.Bool.{Bool, true, false, not, _||_}
+use mathlib.Core.Bool.{Bool, not, _||_}
 use Prim.Native.Nat.{ℕ}
 use Rattle.instruction.specs.Word.{pick}
 use Rattle.mask.specs.declared.Mask.{Mask}

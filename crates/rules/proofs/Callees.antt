@@ -1,10 +1,8 @@
 -- A test of each class in a mask and its callee, as a test of each callee. Assumes nothing.
 use mathlib.Core.Path.{_≡_, refl, sym, _∙_}
-use mathlib.Core.Bool.{Bool, true, false, false≢true, not, _&&_, _||_}
-use Prim.Native.Nat.{ℕ, zero, suc, _<_}
-use native.Mathlib.Omega.{arith}
-use lib.Dec.{eqb}
-use borrow.Author.Tests.{eqb-true, eq-eqb}
+use mathlib.Core.Bool.{Bool, true, not, _&&_, _||_}
+use Prim.Native.Nat.{ℕ, _<_}
+use borrow.Author.Tests.{eq-eqb}
 use Rattle.instruction.proofs.Flags.{both-true, if-use, if-true}
 use Rattle.mask.specs.Mask.{every}
 use Rattle.mask.proofs.Laws.{same-test, every-at, every-all}

@@ -1,7 +1,7 @@
 -- Rule 4 of an instruction with one operand, asked as of one that has it twice. Assumes nothing.
 use mathlib.Core.Path.{_≡_, refl, ap}
 use mathlib.Core.Bool.{Bool, true, false, not, _||_}
-use Prim.Native.Nat.{ℕ, suc}
+use Prim.Native.Nat.{ℕ}
 use Rattle.mask.specs.Mask.{hasNumber}
 use Rattle.program.specs.Program.{Program}
 use Rattle.flow.specs.Claim.{registerAt, Claim}

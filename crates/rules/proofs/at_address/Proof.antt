@@ -1,5 +1,4 @@
 -- `rules::at_address` meets its contract. Assumes nothing.
-use native.Mathlib.Omega.{arith}
 use lib.Dec.{eqb}
 use borrow.Author.Tests.{eq-eqb, ne-eqb}
 use Rattle.mask.proofs.Laws.{and-false}

@@ -1,6 +1,5 @@
 -- `rules::of_instruction` meets its contract: one case an instruction. Assumes nothing.
 use mathlib.Core.Path.{_∙_}
-use native.Mathlib.Omega.{arith}
 use mir.Syntax.{w32}
 use mir.ValLaws.{toZ-ofZ}
 use Rattle.program.specs.Tables.{programIn}
@@ -13,19 +12,19 @@ enum-told : tie.Need-enum-told
 enum-told c = c .match .keys1
 
 to-next-requires : tie.Need-to-next-requires
-to-next-requires c κs = omega arith
+to-next-requires c κs = c .before .before .pre .0
 
 enum-known-i : tie.Need-enum-known-i
 enum-known-i c = c .match .keys2
 
 moved-requires : tie.Need-moved-requires
-moved-requires c κs = omega arith
+moved-requires c κs = c .before .before .before .pre .0
 
 enum-known-i-2 : tie.Need-enum-known-i-2
 enum-known-i-2 c = c .match .keys3
 
 constant-requires : tie.Need-constant-requires
-constant-requires c κs = omega arith
+constant-requires c κs = c .before .before .before .pre .0
 
 enum-known-i-3 : tie.Need-enum-known-i-3
 enum-known-i-3 c = c .match .keys4
@@ -37,31 +36,31 @@ enum-known-i-4 : tie.Need-enum-known-i-4
 enum-known-i-4 c = c .match .keys5
 
 to-both-requires : tie.Need-to-both-requires
-to-both-requires c κs = omega arith
+to-both-requires c κs = c .before .before .before .pre .0
 
 enum-known-i-5 : tie.Need-enum-known-i-5
 enum-known-i-5 c = c .match .keys6
 
 to-both-requires-2 : tie.Need-to-both-requires-2
-to-both-requires-2 c κs = omega arith
+to-both-requires-2 c κs = c .before .before .before .pre .0
 
 enum-known-i-6 : tie.Need-enum-known-i-6
 enum-known-i-6 c = c .match .keys7
 
 binary-requires : tie.Need-binary-requires
-binary-requires c κs = omega arith
+binary-requires c κs = c .before .before .before .pre .0
 
 enum-known-i-7 : tie.Need-enum-known-i-7
 enum-known-i-7 c = c .match .keys8
 
 binary-requires-2 : tie.Need-binary-requires-2
-binary-requires-2 c κs = omega arith
+binary-requires-2 c κs = c .before .before .before .pre .0
 
 enum-known-i-8 : tie.Need-enum-known-i-8
 enum-known-i-8 c = c .match .keys9
 
 made-requires : tie.Need-made-requires
-made-requires c κs = omega arith
+made-requires c κs = c .before .before .before .pre .0
 
 enum-known-i-9 : tie.Need-enum-known-i-9
 enum-known-i-9 c = c .match .keys10
@@ -79,13 +78,13 @@ enum-known-i-11 : tie.Need-enum-known-i-11
 enum-known-i-11 c = c .match .keys12
 
 static-read-requires : tie.Need-static-read-requires
-static-read-requires c κs = omega arith
+static-read-requires c κs = c .before .before .before .pre .0
 
 enum-known-i-12 : tie.Need-enum-known-i-12
 enum-known-i-12 c = c .match .keys13
 
 static-written-requires : tie.Need-static-written-requires
-static-written-requires c κs = omega arith
+static-written-requires c κs = c .before .before .before .pre .0
 
 enum-known-i-13 : tie.Need-enum-known-i-13
 enum-known-i-13 c = c .match .keys14
@@ -103,13 +102,13 @@ enum-known-i-15 : tie.Need-enum-known-i-15
 enum-known-i-15 c = c .match .keys16
 
 result-read-requires : tie.Need-result-read-requires
-result-read-requires c κs = omega arith
+result-read-requires c κs = c .before .before .before .pre .0
 
 enum-known-i-16 : tie.Need-enum-known-i-16
 enum-known-i-16 c = c .match .keys17
 
 result-read-requires-2 : tie.Need-result-read-requires-2
-result-read-requires-2 c κs = omega arith
+result-read-requires-2 c κs = c .before .before .before .pre .0
 
 enum-known-i-17 : tie.Need-enum-known-i-17
 enum-known-i-17 c = c .match .keys18
@@ -133,7 +132,7 @@ enum-known-i-19 : tie.Need-enum-known-i-19
 enum-known-i-19 c = c .match .keys21
 
 numbers-requires : tie.Need-numbers-requires
-numbers-requires c κs = omega arith
+numbers-requires c κs = c .before .before .before .pre .0
 
 enum-known-i-20 : tie.Need-enum-known-i-20
 enum-known-i-20 c = c .match .keys22

@@ -4,7 +4,7 @@ use Prim.Native.Nat.{ℕ}
 use native.Mathlib.Numerals.{add-one}
 use native.Mathlib.Omega.{arith}
 use Rattle.mask.specs.declared.Mask.{Mask}
-use Rattle.mask.specs.Mask.{has, every}
+use Rattle.mask.specs.Mask.{has}
 use Rattle.program.specs.Program.{methodCount}
 use Rattle.program.specs.Tables.{programIn}
 use Rattle.flow.specs.Claim.{registerAt}

@@ -1,5 +1,4 @@
 -- `rules::write::bit_of` meets its contract. Assumes nothing.
-use mathlib.Core.Path.{sym}
 use Rattle.arithmetic.proofs.Tests.{is-zero, not-zero}
 use Rattle.rules.proofs.write.bit_of.Statement.{statement}
 use Rattle.rules.proofs.write.bit_of.Tie as tie
