@@ -18,7 +18,7 @@ ghost use Rattle.slots.specs.Layout.{placeOf, maskOf};
 ghost use Rattle.reader.specs.Inside.{lineAt};
 ghost use Rattle.claim.specs.Inside.{dueAt, maskIn, masksIn, takeWhole, afterLine};
 
-// The bits of the mask after another: the same where the digits repeat, as they mostly do. The line's digits are tested.
+// The bits of the mask after another: the same where the digits repeat. The line's digits are tested.
 fn mask_after(text: &[u8], at: usize, bits: u64) -> u64
     requires { ⌜ (at + 32 ≤ length (now text)) × (allDigits (take 32 (drop at (now text))) ≡ true) × (bits ≡ maskIn (now text) at) ⌝ }
     ensures value { λ r. ⌜ r ≡ maskIn (now (text .entry)) (at + 16) ⌝ }

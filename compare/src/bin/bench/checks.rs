@@ -4,9 +4,9 @@ use super::measure::interleaved;
 use super::{line, programs, proved, ROUNDS};
 use compare::assembly::SAMPLE;
 use compare::checker::{check, Verdict, Violation, LEAST_MEMORY};
-use compare::claim::Claim;
+use compare::claim::{class_bits, Claim};
 use compare::generate_claims::{calling_program, storing_program};
-use compare::least::{greatest, least};
+use compare::least::{addresses, close, greatest, least};
 use compare::program::Program;
 use compare::reader::read;
 use std::hint::black_box;
@@ -33,6 +33,33 @@ fn of(name: &'static str, program: &Program, claim: &Claim, times: usize) -> Che
     Check { name, program: text, claim, times, number: ACCEPTED }
 }
 
+/// An accepted claim in which masks that stand beside each other differ: the
+/// registers of each method start with classes of their own.
+fn varied(program: &Program) -> Claim {
+    let mut claim = least(program);
+    for method in 0..program.methods.len() {
+        for (register, mask) in claim.row_mut(method, 0).iter_mut().enumerate() {
+            let number = (method * 17 + register + 1) as u64;
+            *mask |= number.wrapping_mul(0x9e37_79b9_7f4a_7c15) & class_bits(program);
+        }
+    }
+    close(program, claim)
+}
+
+/// A claim with a mask of its own for every register and result: hardly two
+/// alike, and rules broken from the first address on.
+fn scattered(program: &Program) -> Claim {
+    let mut claim = greatest(program);
+    let mut number = 0_u64;
+    for (method, address) in addresses(program) {
+        for mask in claim.row_mut(method, address) {
+            number += 1;
+            *mask &= number.wrapping_mul(0x9e37_79b9_7f4a_7c15);
+        }
+    }
+    claim
+}
+
 pub fn all() -> Vec<Check> {
     let sample = read(SAMPLE.as_bytes()).expect("the sample is a program");
     let mixed = programs::mixed();
@@ -42,12 +69,16 @@ pub fn all() -> Vec<Check> {
     let mut broken = stored.clone();
     broken.returned[15] = 0;
     let last = Check { number: VIOLATED, ..of("stores, violated last", &storing, &broken, 20) };
+    let scattered = scattered(&storing);
+    let first = Check { number: VIOLATED, ..of("stores, scattered", &storing, &scattered, 20) };
     vec![
         of("sample", &sample, &least(&sample), 4_000),
         of("mixed", &mixed, &least(&mixed), 400),
         of("stores", &storing, &stored, 20),
         last,
         of("stores, all bits", &storing, &greatest(&storing), 20),
+        of("stores, varied", &storing, &varied(&storing), 20),
+        first,
         of("virtual calls", &calling, &least(&calling), 20),
         of("virtual calls, all bits", &calling, &greatest(&calling), 20),
     ]
