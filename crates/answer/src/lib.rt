@@ -16,7 +16,8 @@ ghost use Rattle.bounded.specs.Step.{numberOf, valuesOf, pendingValues};
 ghost use Rattle.verdict.specs.Numbers.{numberOf as verdictNumber, valuesOf as verdictValues};
 ghost use Rattle.answer.specs.Words.{pendingWord, answered, verdictAnswered};
 
-fn fault_number(f: Fault) -> u8
+// Document 01's number of a fault.
+pub fn fault_number(f: Fault) -> u8
     ensures value { λ r. ⌜ r ≡ faultNumber f ⌝ }
 {
     match f {

@@ -1,36 +1,15 @@
--- Lists put together: one list more, and how long they are at most. Assumes nothing.
-use mathlib.Core.Path.{_≡_, sym, ap, _∙_}
+-- How long the parts of the call list are at most. Assumes nothing.
 use mathlib.Core.Bool.{Bool, true, false}
-use mathlib.Core.List.{List, _++_, append-nil, append-assoc}
-use Prim.Native.Nat.{ℕ, zero, suc, _*_, _≤_, _<_}
-use native.Mathlib.Nat.{suc-mul}
+use Prim.Native.Nat.{ℕ, _*_, _≤_}
 use native.Mathlib.Omega.{arith}
-use lib.ListN.{length, length-append}
+use lib.ListN.{length}
 use Rattle.program.specs.Lists.{joined}
 use Rattle.program.specs.Program.{Program, methodCount, codeLength}
+use Rattle.program.proofs.Joined.{joined-short}
 use Rattle.flow.specs.Claim.{Claim}
 use Rattle.flow.specs.Rules.{rulesAt}
 use Rattle.flow.specs.Calls.{calledBy}
 use Rattle.calls.specs.Inside.{callIf, callsTo, addressCalls, methodCalls}
-
-module _ {A : Type 0} where
-  pub joined-more : (n : ℕ) (f : ℕ → List A) → joined (suc n) f ≡ joined n f ++ f n
-  joined-more zero f = append-nil (f zero)
-  joined-more (suc n) f =
-      ap (λ (l : List A). f zero ++ l) (joined-more n (λ k. f (suc k)))
-      ∙ sym (append-assoc (f zero) (joined n (λ k. f (suc k))) (f (suc n)))
-
-  -- n lists of at most b elements
-  pub joined-short : (n b : ℕ) (f : ℕ → List A) → ((k : ℕ) → k < n → length (f k) ≤ b) → length (joined n f) ≤ n * b
-  joined-short zero b f h = omega arith
-  joined-short (suc n) b f h =
-      omega (
-        arith,
-        length-append (f zero) (joined n (λ k. f (suc k))),
-        h zero (omega arith),
-        joined-short n b (λ k. f (suc k)) (λ k l. h (suc k) (omega arith)),
-        suc-mul n b,
-      )
 
 -- ---- the parts of the call list
 call-short : (called : Bool) (m pc q : ℕ) → length (callIf called m pc q) ≤ 1

@@ -8,7 +8,7 @@ use Rattle.program.specs.Lists.{joined}
 use Rattle.machine.specs.History.{Made}
 use Rattle.calls.specs.Bytes.{putCalls}
 use Rattle.calls.specs.Inside.{Written}
-use Rattle.calls.proofs.Joined.{joined-more}
+use Rattle.program.proofs.Joined.{joined-more}
 
 -- one part of a list, then the other
 pub put-append : (xs ys : List Made) (at : ℕ) (memory : List ℕ) → putCalls (xs ++ ys) at memory ≡ putCalls ys (at + 3 * length xs) (putCalls xs at memory)

@@ -1,4 +1,4 @@
 // The tool. Its data are the sample of document 01.
 fn main() {
-    tool::print_verdict();
+    tool::run();
 }

@@ -8,8 +8,9 @@ use Prim.Native.Nat.{ℕ, _+_, _-_, _/_, _%_}
 use lib.Dec.{eqb, ltb}
 use lib.ListN.{length, getD}
 use mir.Syntax.{w32}
-use mir.Val.{toZ, ofZ}
+use mir.Val.{toZ}
 use Rattle.instruction.specs.Word.{pick}
+use Rattle.arithmetic.specs.Arithmetic.{low}
 use Rattle.program.specs.Lists.{tab}
 use Rattle.machine.specs.declared.Value.{Value}
 use Rattle.machine.specs.declared.Value.the-variants.{Number, Reference}
@@ -17,7 +18,7 @@ use Rattle.machine.specs.State.{Frame, Object, State, null, noFrame, register, 
 
 -- a number is its 32 bits, an object 2 ^ 32 and its number: "object 0 and number 0 differ"
 abbrev pub valueWord : Value → ℕ
-valueWord (Number z) = ofZ w32 z
+valueWord (Number z) = low z
 valueWord (Reference o) = 4294967296 + o
 
 -- the value that a word says

@@ -35,7 +35,8 @@ fn word_of(v: Value) -> u64
     }
 }
 
-fn word_at(ws: &[u64], i: usize) -> usize
+// A word of memory, 0 past its end.
+pub fn word_at(ws: &[u64], i: usize) -> usize
     ensures value { λ r. ⌜ r ≡ getD (now (ws .entry)) i 0 ⌝ }
 {
     if i < ws.len() { ws[i] as usize } else { 0 }

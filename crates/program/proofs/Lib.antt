@@ -1,4 +1,5 @@
 pub mod Grow
+pub mod Joined
 pub mod Lists
 pub mod Every
 pub mod Read

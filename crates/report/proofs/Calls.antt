@@ -1,14 +1,28 @@
--- The lines of calls: nine bytes each, one line after another, and all of them after the word. Assumes nothing.
+-- The lines of calls: none, one more, and nine bytes each. Assumes nothing.
 use mathlib.Core.Path.{_≡_, refl}
 use mathlib.Core.List.{List, _++_}
-use Prim.Native.Nat.{ℕ, zero, suc, _+_, _*_, _≤_, _<_}
+use Prim.Native.Nat.{ℕ, zero, suc, _+_, _*_}
 use native.Mathlib.Omega.{arith}
+use native.Mathlib.Numerals.{add-one}
 use lib.ListN.{length, getD, length-append}
-use Rattle.report.specs.Output.{written, filled, filledCount}
+use Rattle.page.specs.Page.{Put}
+use Rattle.page.proofs.Puts.{put-none, put-then}
 use Rattle.report.specs.Printed.{three, callLines, acceptedWord}
-use Rattle.report.proofs.Places.{then, nothing, fits-front, past-end}
 
-pub calls-length : (memory : List ℕ) (k : ℕ) → length (callLines memory k) ≡ 9 * k
+-- no line
+pub calls-none : (memory out : List ℕ) (at : ℕ) → Put out at (callLines memory 0) out at
+unfolding callLines
+calls-none memory out at = put-none out at
+
+-- the line of one call more
+pub calls-more : (memory : List ℕ) (i : ℕ) {out : List ℕ} {at : ℕ} {a : List ℕ} {k : ℕ} {b : List ℕ} {j : ℕ}
+    → Put out at (callLines memory i) a k
+    → Put a k (three (getD memory (3 * i) 0) (getD memory (3 * i + 1) 0) (getD memory (3 * i + 2) 0)) b j
+    → Put out at (callLines memory (i + 1)) b j
+unfolding callLines
+calls-more memory i p q = rw add-one (put-then p q)
+
+calls-length : (memory : List ℕ) (k : ℕ) → length (callLines memory k) ≡ 9 * k
 unfolding callLines
 calls-length memory zero = refl
 calls-length memory (suc k) =
@@ -17,31 +31,3 @@ calls-length memory (suc k) =
 
 pub accepted-length : (memory : List ℕ) (k : ℕ) → length (acceptedWord ++ callLines memory k) ≡ 9 + 9 * k
 accepted-length memory k = omega (arith, calls-length memory k)
-
--- no line
-pub calls-none : (memory out : List ℕ) → out ≡ written out 9 (callLines memory 0)
-unfolding callLines
-calls-none memory out = nothing out 9
-
--- the line of one call more
-pub calls-more : (memory out : List ℕ) (i : ℕ) {a b : List ℕ} → 9 ≤ length out
-    → a ≡ written out 9 (callLines memory i)
-    → b ≡ written a (9 + 9 * i) (three (getD memory (3 * i) 0) (getD memory (3 * i + 1) 0) (getD memory (3 * i + 2) 0))
-    → b ≡ written out 9 (callLines memory (suc i))
-unfolding callLines
-calls-more memory out i fits first second =
-    then out 9 (callLines memory i) _ fits first (rw (calls-length memory i) second)
-
--- the word and the lines of calls, where they do not fit, and written at the front where they do
-pub accepted-past : (memory out : List ℕ) {n k : ℕ} → n ≡ k → length out < 9 + 9 * n
-    → (0 ≡ filledCount (acceptedWord ++ callLines memory k) out) × (out ≡ filled (acceptedWord ++ callLines memory k) out)
-accepted-past memory out {n} {k} e h =
-    past-end out (acceptedWord ++ callLines memory k) (9 + 9 * k) (accepted-length memory k) (omega arith)
-
-pub accepted-fits : (memory out : List ℕ) {n k : ℕ} {a b : List ℕ} → n ≡ k → 9 + 9 * n ≤ length out
-    → a ≡ written out 0 acceptedWord
-    → b ≡ written a 9 (callLines memory n)
-    → (9 + 9 * n ≡ filledCount (acceptedWord ++ callLines memory k) out) × (b ≡ filled (acceptedWord ++ callLines memory k) out)
-accepted-fits memory out {n} {k} e h word lines =
-    fits-front out (acceptedWord ++ callLines memory k) (9 + 9 * n) (omega (arith, calls-length memory k)) h
-    (then out 0 acceptedWord (callLines memory k) (omega arith) word (rw e at lines))

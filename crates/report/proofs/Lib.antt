@@ -1,4 +1,3 @@
 pub mod Calls
 pub mod Examples
 pub mod Longest
-pub mod Places

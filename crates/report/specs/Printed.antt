@@ -1,23 +1,10 @@
--- What the tool prints, by document 01, The tool. Definitions only.
-use mathlib.Core.Bool.{cond as pick}
+-- What the tool prints of a verdict, by document 01, The tool. Definitions only.
 use mathlib.Core.List.{List, [], _∷_, _++_}
-use Prim.Native.Nat.{ℕ, zero, suc, _+_, _*_, _/_, _%_, min}
-use lib.Dec.{ltb}
+use Prim.Native.Nat.{ℕ, zero, suc, _+_, _*_, min}
 use lib.ListN.{getD}
+use Rattle.page.specs.Digits.{two, eight}
 use Rattle.verdict.specs.declared.Verdict.{Verdict}
 use Rattle.verdict.specs.declared.Verdict.the-variants.{Accepted, Violated, Refused, Short}
-
--- "It prints in hexadecimal", lowercase as its texts are: the digit of a number below 16
-unfoldable pub digitOf : ℕ → ℕ
-digitOf n = pick (ltb n 10) (48 + n) (87 + n)
-
--- "two digits each": the low byte of a number
-abbrev pub two : ℕ → List ℕ
-two n = digitOf (n / 16 % 16) ∷ digitOf (n % 16) ∷ []
-
--- "line (eight)": the low four bytes, the high byte first
-abbrev pub eight : ℕ → List ℕ
-eight n = two (n / 16777216) ++ two (n / 65536) ++ two (n / 256) ++ two n
 
 -- `00 00 01`: three numbers, two digits each, a space between, and the line end
 abbrev pub three : ℕ → ℕ → ℕ → List ℕ

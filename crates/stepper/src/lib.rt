@@ -5,6 +5,7 @@ ghost use Prim.Native.Nat.{min, _≤_};
 ghost use lib.ListN.{length};
 ghost use Rattle.program.specs.Tables.{programIn};
 ghost use Rattle.reader.specs.Formed.{Formed};
+ghost use Rattle.reader.specs.Read.{readProgram, tablesAfter};
 ghost use Rattle.turn.specs.Lies.{lent};
 ghost use Rattle.bounded.specs.Bounded.{bounded};
 ghost use Rattle.bounded.specs.Step.{stepping, steppingNumber, steppingValues, framesAfter, objectsAfter, staticsAfter, enough, numberOf, valuesOf};
@@ -47,8 +48,8 @@ fn suffices(frames: usize, objects: usize, statics: usize) -> bool
     16 <= statics
 }
 
-// Steps a text by way of tables for its program.
-fn step_by(
+// The same as `step`, in tables for the program that the caller lends: read, they hold the program.
+pub fn step_in(
     text: &[u8],
     n: u64,
     t: &mut [u64; 768],
@@ -58,6 +59,7 @@ fn step_by(
 ) -> Outcome
     ensures answer { λ r. ⌜ (numberOf r ≡ steppingNumber (stepping (now (text .entry)) n (now (frames .entry)) (now (objects .entry)) (now (statics .entry)))) × (valuesOf r ≡ steppingValues (stepping (now (text .entry)) n (now (frames .entry)) (now (objects .entry)) (now (statics .entry)))) ⌝ }
     ensures memory { λ r. ⌜ (now (frames .exit) ≡ framesAfter (stepping (now (text .entry)) n (now (frames .entry)) (now (objects .entry)) (now (statics .entry))) (now (frames .entry))) × (now (objects .exit) ≡ objectsAfter (stepping (now (text .entry)) n (now (frames .entry)) (now (objects .entry)) (now (statics .entry))) (now (objects .entry))) × (now (statics .exit) ≡ staticsAfter (stepping (now (text .entry)) n (now (frames .entry)) (now (objects .entry)) (now (statics .entry))) (now (statics .entry))) ⌝ }
+    ensures tables { λ r. ⌜ now (t .exit) ≡ tablesAfter (readProgram (now (text .entry))) (now (t .entry)) ⌝ }
 {
     let read = reader::read(text, &mut *t);
     let number = reader::number_of(read);
@@ -85,5 +87,5 @@ pub fn step(
     ensures memory { λ r. ⌜ (now (frames .exit) ≡ framesAfter (stepping (now (text .entry)) n (now (frames .entry)) (now (objects .entry)) (now (statics .entry))) (now (frames .entry))) × (now (objects .exit) ≡ objectsAfter (stepping (now (text .entry)) n (now (frames .entry)) (now (objects .entry)) (now (statics .entry))) (now (objects .entry))) × (now (statics .exit) ≡ staticsAfter (stepping (now (text .entry)) n (now (frames .entry)) (now (objects .entry)) (now (statics .entry))) (now (statics .entry))) ⌝ }
 {
     let mut t = [0u64; 768];
-    step_by(text, n, &mut t, frames, objects, statics)
+    step_in(text, n, &mut t, frames, objects, statics)
 }

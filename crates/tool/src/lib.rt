@@ -1,70 +1,14 @@
-// The tool: reads panel.txt and claim.txt in the current folder, and prints the checker's verdict on them.
+// The tool: what its command line asks, on files and standard output. What is printed and told is decided by `response`.
+mod files;
+
+use command::Command;
+use files::Got;
+use files::read_word;
+use libc::STDERR_FILENO;
 use libc::STDOUT_FILENO;
 ghost use mathlib.Core.Path.{_≡_};
-ghost use Prim.Native.Nat.{_≤_};
 ghost use lib.ListN.{length};
-ghost use Rattle.reader.specs.Read.{readProgram};
-ghost use Rattle.checker.specs.Check.{checking};
-ghost use Rattle.report.specs.Output.{filled, filledCount};
-ghost use Rattle.tool.specs.Answer.{longer, saidOf, said};
-ghost use Rattle.tool.specs.Files.{Filled};
-
-// What came of a file: so many bytes, or a read that failed.
-enum Got {
-    Bytes(usize),
-    Failed,
-}
-
-// One read.
-fn read_some(fd: i32, buffer: &mut [u8]) -> Got
-    ensures bytes { λ r. ⌜ Filled r (now (buffer .exit)) ⌝ }
-{
-    let got = libc::read(fd, &mut *buffer);
-    if got < 0 {
-        return Got::Failed;
-    }
-    Got::Bytes(io::count(got, buffer))
-}
-
-// Reads until the buffer is full or the file ends.
-fn read_all(fd: i32, buffer: &mut [u8]) -> Got
-    ensures bytes { λ r. ⌜ Filled r (now (buffer .exit)) ⌝ }
-{
-    let mut at = 0;
-    while at < buffer.len() {
-        let got = read_some(fd, &mut buffer[at..]);
-        let Got::Bytes(n) = got else {
-            return Got::Failed;
-        };
-        if n == 0 {
-            return Got::Bytes(at);
-        }
-        at += n;
-    }
-    Got::Bytes(at)
-}
-
-// Says on standard error that a read failed.
-fn complain(path: &[u8], got: Got) {
-    match got {
-        Got::Bytes(_) => {}
-        Got::Failed => os::fail(path),
-    }
-}
-
-// Reads a file to the start of the buffer, as much of it as goes in. One that cannot be opened is empty.
-fn read_file(path: &[u8], buffer: &mut [u8]) -> Got
-    ensures bytes { λ r. ⌜ Filled r (now (buffer .exit)) ⌝ }
-{
-    let fd = os::open_read(path);
-    if fd < 0 {
-        return Got::Bytes(0);
-    }
-    let got = read_all(fd, &mut *buffer);
-    complain(path, got);
-    libc::close(fd);
-    got
-}
+ghost use Rattle.io.specs.Counts.{Counts};
 
 // More bytes than a file may have.
 fn space() -> [u8; 65537]
@@ -73,78 +17,126 @@ fn space() -> [u8; 65537]
     [0; 65537]
 }
 
-// More bytes than the checker takes of a claim.
-fn long_claim() -> [u8; 262145]
-    ensures length { λ r. ⌜ 262145 ≡ length r ⌝ }
-{
-    [0; 262145]
-}
-
-// The memory that is lent to the checker.
-fn lent() -> [u8; 24576]
-    ensures length { λ r. ⌜ 24576 ≡ length r ⌝ }
-{
-    [0; 24576]
-}
-
-// Room for what is printed.
+// Room for what is printed, and for what is told.
 fn page() -> [u8; report::LONGEST]
     ensures length { λ r. ⌜ 73737 ≡ length r ⌝ }
 {
     [0; report::LONGEST]
 }
 
-// Writes what is printed of the checker's verdict to the front of out, and answers how many bytes that are.
-fn answer_of(panel: &[u8], claim: &[u8], out: &mut [u8]) -> usize
-    ensures count { λ r. ⌜ r ≡ filledCount (saidOf (checking (now (panel .entry)) (now (claim .entry)) 24576)) (now (out .entry)) ⌝ }
-    ensures bytes { λ r. ⌜ now (out .exit) ≡ filled (saidOf (checking (now (panel .entry)) (now (claim .entry)) 24576)) (now (out .entry)) ⌝ }
+fn line() -> [u8; 256]
+    ensures length { λ r. ⌜ 256 ≡ length r ⌝ }
 {
-    let mut memory = lent();
-    let v = checker::check(panel, claim, &mut memory);
-    report::write(v, &memory, out)
+    [0; 256]
 }
 
-// The same for a claim that the checker finds too long.
-fn answer_of_long(panel: &[u8], out: &mut [u8]) -> usize
-    ensures count { λ r. ⌜ r ≡ filledCount (saidOf (longer (readProgram (now (panel .entry))))) (now (out .entry)) ⌝ }
-    ensures bytes { λ r. ⌜ now (out .exit) ≡ filled (saidOf (longer (readProgram (now (panel .entry))))) (now (out .entry)) ⌝ }
+// How many bytes of a buffer are to be written: never more than it has.
+fn within(n: usize, buffer: &[u8]) -> usize
+    ensures count { λ r. ⌜ Counts r (now (buffer .entry)) ⌝ }
 {
-    let claim = long_claim();
-    answer_of(panel, &claim, out)
+    if n < buffer.len() { n } else { buffer.len() }
 }
 
-// Writes what is printed for the texts of the two files to the front of out, and answers how many bytes that are. A claim of
-// more than 65,536 bytes is too long.
-pub fn answer(panel: &[u8], claim: &[u8], out: &mut [u8]) -> usize
-    ensures count { λ r. ⌜ r ≡ filledCount (said (now (panel .entry)) (now (claim .entry))) (now (out .entry)) ⌝ }
-    ensures bytes { λ r. ⌜ now (out .exit) ≡ filled (said (now (panel .entry)) (now (claim .entry))) (now (out .entry)) ⌝ }
-    ensures whole { λ r. ⌜ (73737 ≤ length (now (out .entry)) → r ≡ length (said (now (panel .entry)) (now (claim .entry)))) ⌝ }
-{
-    if claim.len() <= 65536 {
-        return answer_of(panel, claim, out);
-    }
-    answer_of_long(panel, out)
+// Writes the first bytes of a buffer.
+fn write(fd: i32, buffer: &[u8], n: usize) {
+    let k = within(n, buffer);
+    io::write_all(fd, &buffer[..k]);
 }
 
-fn print_answer(panel: &[u8], claim: &[u8]) {
+// Prints the verdict on two texts and, if asked, tells it in words.
+fn answer_claim(panel: &[u8], claim: &[u8], tell: bool) {
     let mut out = page();
-    let n = answer(panel, claim, &mut out);
-    io::write_all(STDOUT_FILENO, &out[..n]);
-}
-
-fn print_with(panel: &[u8]) {
-    let mut claim = space();
-    let got = read_file(b"claim.txt", &mut claim);
-    if let Got::Bytes(n) = got {
-        print_answer(panel, &claim[..n]);
+    let mut words = line();
+    let table = phrases::table();
+    let response = response::of_claim(panel, claim, &table, &mut out, &mut words);
+    write(STDOUT_FILENO, &out, response.printed);
+    if tell {
+        write(STDERR_FILENO, &words, response.told);
     }
 }
 
-// Prints the verdict on the two files and nothing else; where a read fails, no verdict, and a line on standard error.
-pub fn print_verdict() {
-    let mut panel = space();
-    let got = read_file(b"panel.txt", &mut panel);
+// Prints what becomes of a panel in at most n steps, and tells it in words.
+fn answer_run(panel: &[u8], n: u64) {
+    let mut out = page();
+    let mut words = line();
+    let table = phrases::table();
+    let response = response::of_run(panel, n, &table, &mut out, &mut words);
+    write(STDOUT_FILENO, &out, response.printed);
+    write(STDERR_FILENO, &words, response.told);
+}
+
+fn check_with(panel: &[u8], word: usize, tell: bool) {
+    let mut claim = space();
+    let got = read_word(word, b"claim.txt", &mut claim);
     if let Got::Bytes(n) = got {
-        print_with(&panel[..n]);
+        answer_claim(panel, &claim[..n], tell);
+    }
+}
+
+// Checks two files, named by words of the command line or, where that is word 0, panel.txt and claim.txt.
+fn check(first: usize, second: usize, tell: bool) {
+    let mut panel = space();
+    let got = read_word(first, b"panel.txt", &mut panel);
+    if let Got::Bytes(n) = got {
+        check_with(&panel[..n], second, tell);
+    }
+}
+
+// Runs a file, named by a word of the command line or, where that is word 0, panel.txt.
+fn step(steps: u64, word: usize) {
+    let mut panel = space();
+    let got = read_word(word, b"panel.txt", &mut panel);
+    if let Got::Bytes(n) = got {
+        answer_run(&panel[..n], steps);
+    }
+}
+
+fn help() {
+    io::write_all(
+        STDOUT_FILENO,
+        b"hudzmoke                      prints the verdict on claim.txt, a claim about panel.txt, both in this folder\n\
+        hudzmoke check PANEL CLAIM    the same for two files by name; what is wrong is told in words on standard error\n\
+        hudzmoke step N [PANEL]       runs PANEL, or panel.txt, for at most N steps and prints how that ended and the state\n\
+        hudzmoke help                 prints this\n\
+        Numbers are printed in hexadecimal and told in decimal. docs/FORMATS.md says what each printed line means.\n",
+    );
+}
+
+fn usage() {
+    io::write_all(
+        STDERR_FILENO,
+        b"usage: hudzmoke [check PANEL CLAIM | step N [PANEL] | help]\n",
+    );
+}
+
+// How many words stand on the command line after the program's name.
+fn word_count() -> usize {
+    let n = os::arg_count();
+    if n == 0 { 0 } else { n - 1 }
+}
+
+// What the command line asks. The first word's buffer is longer than every command; one that does not go in is none.
+fn asked() -> Command {
+    let mut first = [0u8; 16];
+    let n = os::arg(1, &mut first);
+    let mut second = files::name();
+    let k = os::arg(2, &mut second);
+    command::command_of(word_count(), &first[..n], &second[..k])
+}
+
+// Does what the command line asks.
+pub fn run() {
+    match asked() {
+        Command::Plain => check(0, 0, false),
+        Command::Check => check(2, 3, true),
+        Command::Step { steps, named } => {
+            if named {
+                step(steps, 3);
+            } else {
+                step(steps, 0);
+            }
+        }
+        Command::Help => help(),
+        Command::Unknown => usage(),
     }
 }

@@ -1,4 +1,4 @@
 // The tool in a folder without files.
 fn main() {
-    tool::print_verdict();
+    tool::run();
 }

@@ -1,4 +1,4 @@
 // The tool on the sample with the result at method 0 address 1 made zero.
 fn main() {
-    tool::print_verdict();
+    tool::run();
 }

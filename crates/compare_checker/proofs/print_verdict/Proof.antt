@@ -4,7 +4,7 @@ use native.Mathlib.Omega.{arith}
 use lib.Seq.{length-take-le}
 use borrow.Author.Needs.{needs}
 use Rattle.report.specs.Printed.{printed}
-use Rattle.report.proofs.Places.{count-within}
+use Rattle.page.proofs.Puts.{count-within}
 use Rattle.compare_checker.proofs.print_verdict.Statement.{statement}
 use Rattle.compare_checker.proofs.print_verdict.Tie as tie
 

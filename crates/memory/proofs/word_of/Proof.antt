@@ -1,10 +1,10 @@
 -- `memory::word_of` meets its contract. Assumes nothing.
-use mathlib.Core.Path.{refl, ap, _∙_}
+use mathlib.Core.Path.{refl, sym, ap, _∙_}
 use native.Mathlib.Omega.{arith}
 use mir.Syntax.{w32}
 use mir.Val.{SFits, ofZ}
 use mir.ValLaws.{toZ-ofZ}
-use Rattle.memory.proofs.Values.{number-reads, reference-reads}
+use Rattle.memory.proofs.Values.{low-same, number-reads, reference-reads}
 use Rattle.memory.proofs.word_of.Statement.{statement}
 use Rattle.memory.proofs.word_of.Tie as tie
 
@@ -30,7 +30,7 @@ returns : tie.Need-returns
 returns c =
     let f : SFits w32 (c .before .before .v .given .0 .0) = record { sfits = c .before .known-told .given .0 .1 } in
     rw (c .before .before .v .given .1)
-    (c .bits .ensures ∙ ap (ofZ w32) (toZ-ofZ w32 _ f), number-reads _ f)
+    (c .bits .ensures ∙ ap (ofZ w32) (toZ-ofZ w32 _ f) ∙ sym (low-same _ f), number-reads _ f)
 
 returns-2 : tie.Need-returns-2
 returns-2 c = rw (c .before .v2 .given .1) (refl, reference-reads _ (omega arith))

@@ -34,7 +34,8 @@ same-length : tie.Need-same-length
 same-length c = search needs
 
 returns : tie.Need-returns
-returns c = rw (← c .before .before .before .before .before .before .byte-at .ensures, ← c .before .before .before .before .before .byte-at2 .ensures, ← c .before .before .before .before .byte-at3 .ensures) (c .before .before .put-three .ensures)
+returns c =
+    rw (← c .before .before .before .before .before .before .byte-at .ensures, ← c .before .before .before .before .before .byte-at2 .ensures, ← c .before .before .before .before .byte-at3 .ensures) (c .before .before .put-three .ensures)
 
 pub put-call-spec : {M : Type 1} → statement M
 put-call-spec =

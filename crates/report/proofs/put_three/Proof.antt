@@ -1,49 +1,42 @@
 -- `report::put_three` meets its contract. Assumes nothing.
-use native.Mathlib.Omega.{arith}
-use mathlib.Core.List.{[], _∷_, _++_}
-use Rattle.report.specs.Printed.{two}
-use Rattle.report.proofs.Places.{then}
+use Rattle.page.proofs.Puts.{put-then}
 use borrow.Author.Needs.{needs}
 use Rattle.report.proofs.put_three.Statement.{statement}
 use Rattle.report.proofs.put_three.Tie as tie
 
-put-field-requires : tie.Need-put-field-requires
-put-field-requires c κs = search needs
+put-two-requires : tie.Need-put-two-requires
+put-two-requires c κs = search needs
 
-add-put-field : tie.Need-add-put-field
-add-put-field c = search needs
+put-byte-requires : tie.Need-put-byte-requires
+put-byte-requires c κs = search needs
 
-put-field-requires-2 : tie.Need-put-field-requires-2
-put-field-requires-2 c κs = search needs
+put-two-requires-2 : tie.Need-put-two-requires-2
+put-two-requires-2 c κs = search needs
 
-add-put-field-2 : tie.Need-add-put-field-2
-add-put-field-2 c = search needs
+put-byte-requires-2 : tie.Need-put-byte-requires-2
+put-byte-requires-2 c κs = search needs
 
-put-field-requires-3 : tie.Need-put-field-requires-3
-put-field-requires-3 c κs = search needs
+put-two-requires-3 : tie.Need-put-two-requires-3
+put-two-requires-3 c κs = search needs
+
+put-byte-requires-3 : tie.Need-put-byte-requires-3
+put-byte-requires-3 c κs = search needs
 
 same-length : tie.Need-same-length
 same-length c = search needs
 
 returns : tie.Need-returns
-returns c =
-    let start = c .before .before .before .before .before .before .before .before .before .before .before .before .before in
-    let out = start .args .out .now in
-    let at = start .args .at in
-    let a = start .args .a in
-    let b = start .args .b in
-    then out at (two a ++ 32 ∷ two b ++ 32 ∷ []) (two (start .args .c) ++ 10 ∷ []) (omega arith)
-    (then out at (two a ++ 32 ∷ []) (two b ++ 32 ∷ []) (omega arith) (c .before .before .before .before .before .before .before .before .before .before .put-field .ensures) (c .before .before .before .before .before .before .put-field2 .ensures))
-    (c .before .before .put-field3 .ensures)
+returns c = put-then (c .before .before .before .before .before .before .before .before .before .before .before .before .before .before .before .before .before .before .before .before .before .before .put-two .ensures) (put-then (c .before .before .before .before .before .before .before .before .before .before .before .before .before .before .before .before .before .before .put-byte .ensures) (put-then (c .before .before .before .before .before .before .before .before .before .before .before .before .before .before .put-two2 .ensures) (put-then (c .before .before .before .before .before .before .before .before .before .before .put-byte2 .ensures) (put-then (c .before .before .before .before .before .before .put-two3 .ensures) (c .before .before .put-byte3 .ensures)))))
 
 pub put-three-spec : {M : Type 1} → statement M
 put-three-spec =
     tie.close
     (tie.spec
-    put-field-requires
-    add-put-field
-    put-field-requires-2
-    add-put-field-2
-    put-field-requires-3
+    put-two-requires
+    put-byte-requires
+    put-two-requires-2
+    put-byte-requires-2
+    put-two-requires-3
+    put-byte-requires-3
     same-length
     returns)

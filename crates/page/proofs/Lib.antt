@@ -1,0 +1,3 @@
+pub mod Decimals
+pub mod Examples
+pub mod Puts

@@ -1,0 +1,4 @@
+pub mod Calls
+pub mod Claims
+pub mod Longest
+pub mod Runs

@@ -1,0 +1,53 @@
+-- `tool::check_with` meets its contract. Assumes nothing.
+use borrow.Author.Needs.{needs}
+use Rattle.tool.proofs.check_with.Statement.{statement}
+use Rattle.tool.proofs.check_with.Tie as tie
+
+space-requires : tie.Need-space-requires
+space-requires c κs = search needs
+
+slice-aggregate-read-word : tie.Need-slice-aggregate-read-word
+slice-aggregate-read-word c = search needs
+
+slice-aggregate-read-word-2 : tie.Need-slice-aggregate-read-word-2
+slice-aggregate-read-word-2 c = search needs
+
+read-word-requires : tie.Need-read-word-requires
+read-word-requires c κs = search needs
+
+enum-known-got : tie.Need-enum-known-got
+enum-known-got c = search needs
+
+array-share-prefix-claim : tie.Need-array-share-prefix-claim
+array-share-prefix-claim c = (rw (c .before .got .given .1) at (c .before .before .before .before .read-word .ensures)) .0
+
+slice-aggregate-answer-claim : tie.Need-slice-aggregate-answer-claim
+slice-aggregate-answer-claim c = (rw (c .before .before .got .given .1) at (c .before .before .before .before .before .read-word .ensures)) .1
+
+answer-claim-requires : tie.Need-answer-claim-requires
+answer-claim-requires c κs = search needs
+
+enum-told : tie.Need-enum-told
+enum-told c = search needs
+
+returns : tie.Need-returns
+returns c = search needs
+
+returns-2 : tie.Need-returns-2
+returns-2 c = search needs
+
+pub check-with-spec : {M : Type 1} → statement M
+check-with-spec =
+    tie.close
+    (tie.spec
+    space-requires
+    slice-aggregate-read-word
+    slice-aggregate-read-word-2
+    read-word-requires
+    enum-known-got
+    array-share-prefix-claim
+    slice-aggregate-answer-claim
+    answer-claim-requires
+    enum-told
+    returns
+    returns-2)

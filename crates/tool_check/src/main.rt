@@ -1,0 +1,4 @@
+// The tool's check of two named files: a claim that breaks rule 7.
+fn main() {
+    tool::run();
+}

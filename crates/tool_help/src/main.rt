@@ -1,0 +1,4 @@
+// The tool's help.
+fn main() {
+    tool::run();
+}

@@ -1,0 +1,4 @@
+// The tool's steps of the sample to its end.
+fn main() {
+    tool::run();
+}

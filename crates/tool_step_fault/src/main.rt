@@ -1,0 +1,4 @@
+// The tool's steps of a panel that divides by zero.
+fn main() {
+    tool::run();
+}

@@ -1,0 +1,4 @@
+// The tool's steps of a panel that is refused.
+fn main() {
+    tool::run();
+}
