@@ -39,7 +39,7 @@ unfolding checking
 with-claim claim size = rw sample-reads
 
 -- ---- "the sample accepted"
-sample-kept : (size : ℕ) → 24576 ≤ size → checking (bytesOf sample) (bytesOf sampleClaim) size ≡ kept (made 0 0 1 ∷ [])
+pub sample-kept : (size : ℕ) → 24576 ≤ size → checking (bytesOf sample) (bytesOf sampleClaim) size ≡ kept (made 0 0 1 ∷ [])
 sample-kept size l =
     with-claim (bytesOf sampleClaim) size ∙ rw (sample-taken, le-ltb size 24576 l, sample-accepted, sample-calls)
 
