@@ -8,7 +8,7 @@ use native.Mathlib.Nat.{zero-add}
 use native.Mathlib.Omega.{arith}
 use borrow.Author.Tests.{lt-ltb, le-ltb, le-leb, lt-leb, leb-true}
 use lib.Dec.{leb}
-use lib.ListN.{length, take, getD, set, length-set}
+use lib.ListN.{length, take, drop, getD, set, length-set}
 use lib.Seq.{sets, sets-eq, set-out, take-suc}
 use Rattle.page.specs.Page.{onward, placeAfter, bytesAfter, Put, filled, filledCount}
 
@@ -94,14 +94,16 @@ fits-sets (b ∷ bs) out at h =
     rw (lt-ltb at (length out) inside, add-one) (fits-sets bs (set out at b) (suc at) next)
 
 -- a text put at the front, whole
-module _ {text out after : List ℕ} {n : ℕ} (p : Put out 0 text after n) where
-  pub front : length text ≤ length out → (n ≡ filledCount text out) × (after ≡ filled text out)
-  front h =
-      let within : leb (length text) (length out) ≡ true = le-leb (length text) (length out) h in
+module _ {text out after : List ℕ} {n : ℕ} (p : Put out 0 text after n) (h : length text ≤ length out) where
+  pub whole : (n ≡ length text) × (after ≡ text ++ drop (length text) out)
+  whole =
       let room : 0 + length text ≤ length out = omega arith in (
-        p .place ∙ fits-place (length out) text 0 room ∙ rw (within, zero-add),
-        p .bytes ∙ fits-sets text out 0 room ∙ sets-eq text out 0 room ∙ rw (within, zero-add),
+        p .place ∙ fits-place (length out) text 0 room ∙ zero-add (length text),
+        p .bytes ∙ fits-sets text out 0 room ∙ sets-eq text out 0 room ∙ rw zero-add,
       )
+
+  pub front : (n ≡ filledCount text out) × (after ≡ filled text out)
+  front = rw (le-leb (length text) (length out) h) whole
 
 -- bytes that do not fit
 pub past-end : (text out : List ℕ) → length out < length text → (0 ≡ filledCount text out) × (out ≡ filled text out)

@@ -1,33 +1,18 @@
--- The lines of calls: none, one more, and nine bytes each. Assumes nothing.
+-- The lines of calls have nine bytes each. Assumes nothing.
 use mathlib.Core.Path.{_≡_, refl}
 use mathlib.Core.List.{List, _++_}
 use Prim.Native.Nat.{ℕ, zero, suc, _+_, _*_}
 use native.Mathlib.Omega.{arith}
-use native.Mathlib.Numerals.{add-one}
-use lib.ListN.{length, getD, length-append}
-use Rattle.page.specs.Page.{Put}
-use Rattle.page.proofs.Puts.{put-none, put-then}
-use Rattle.report.specs.Printed.{three, callLines, acceptedWord}
+use lib.ListN.{length, length-append}
+use Rattle.program.specs.Lists.{joined}
+use Rattle.report.specs.Printed.{callLine, callLines, acceptedWord}
 
--- no line
-pub calls-none : (memory out : List ℕ) (at : ℕ) → Put out at (callLines memory 0) out at
-unfolding callLines
-calls-none memory out at = put-none out at
-
--- the line of one call more
-pub calls-more : (memory : List ℕ) (i : ℕ) {out : List ℕ} {at : ℕ} {a : List ℕ} {k : ℕ} {b : List ℕ} {j : ℕ}
-    → Put out at (callLines memory i) a k
-    → Put a k (three (getD memory (3 * i) 0) (getD memory (3 * i + 1) 0) (getD memory (3 * i + 2) 0)) b j
-    → Put out at (callLines memory (i + 1)) b j
-unfolding callLines
-calls-more memory i p q = rw add-one (put-then p q)
-
-calls-length : (memory : List ℕ) (k : ℕ) → length (callLines memory k) ≡ 9 * k
-unfolding callLines
-calls-length memory zero = refl
-calls-length memory (suc k) =
-    let before : length (callLines memory k) ≡ 9 * k = calls-length memory k in
-    simp length-append (omega arith)
+-- k texts of nine bytes
+joined-nine : (k : ℕ) (f : ℕ → List ℕ) → ((i : ℕ) → length (f i) ≡ 9) → length (joined k f) ≡ 9 * k
+joined-nine zero f h = refl
+joined-nine (suc k) f h =
+    omega (arith, length-append (f zero) (joined k (λ i. f (suc i))), h zero, joined-nine k (λ i. f (suc i)) (λ i. h (suc i)))
 
 pub accepted-length : (memory : List ℕ) (k : ℕ) → length (acceptedWord ++ callLines memory k) ≡ 9 + 9 * k
-accepted-length memory k = omega (arith, calls-length memory k)
+unfolding callLines
+accepted-length memory k = omega (arith, joined-nine k (callLine memory) (λ i. refl))

@@ -1,8 +1,9 @@
 -- What the tool prints of a verdict, by document 01, The tool. Definitions only.
 use mathlib.Core.List.{List, [], _∷_, _++_}
-use Prim.Native.Nat.{ℕ, zero, suc, _+_, _*_, min}
+use Prim.Native.Nat.{ℕ, _+_, _*_, min}
 use lib.ListN.{getD}
 use Rattle.page.specs.Digits.{two, eight}
+use Rattle.program.specs.Lists.{joined}
 use Rattle.verdict.specs.declared.Verdict.{Verdict}
 use Rattle.verdict.specs.declared.Verdict.the-variants.{Accepted, Violated, Refused, Short}
 
@@ -10,11 +11,12 @@ use Rattle.verdict.specs.declared.Verdict.the-variants.{Accepted, Violated, Ref
 abbrev pub three : ℕ → ℕ → ℕ → List ℕ
 three a b c = two a ++ 32 ∷ two b ++ 32 ∷ two c ++ 10 ∷ []
 
--- "each call has its own line": the first k calls, "a byte a number" in lent memory, three numbers a call
+-- "each call has its own line": call i, "a byte a number" in lent memory, three numbers a call; the first k calls
+abbrev pub callLine : List ℕ → ℕ → List ℕ
+callLine memory i = three (getD memory (3 * i) 0) (getD memory (3 * i + 1) 0) (getD memory (3 * i + 2) 0)
+
 unfoldable pub callLines : List ℕ → ℕ → List ℕ
-callLines memory zero = []
-callLines memory (suc k) =
-    callLines memory k ++ three (getD memory (3 * k) 0) (getD memory (3 * k + 1) 0) (getD memory (3 * k + 2) 0)
+callLines memory k = joined k (callLine memory)
 
 -- `accepted` and its line end
 abbrev pub acceptedWord : List ℕ

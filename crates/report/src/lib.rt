@@ -5,10 +5,10 @@ pub use run::write_run;
 use verdict::Verdict;
 ghost use mathlib.Core.Path.{_≡_};
 ghost use mathlib.Core.List.{List, _++_};
-ghost use Prim.Native.Nat.{ℕ, _+_, _*_, _≤_, _<_};
+ghost use Prim.Native.Nat.{ℕ, _≤_, _<_};
 ghost use lib.ListN.{length, getD};
 ghost use Rattle.page.specs.Page.{Put, filled, filledCount};
-ghost use Rattle.report.specs.Printed.{three, callLines, violatedWord, refusedLine, printed};
+ghost use Rattle.report.specs.Printed.{three, callLine, callLines, violatedWord, refusedLine, printed};
 
 // No verdict prints more bytes.
 pub const LONGEST: usize = 73737;
@@ -39,7 +39,7 @@ fn byte_at(memory: &[u8], i: usize) -> usize
 // Puts the line of call i.
 fn put_call(memory: &[u8], i: usize, out: &mut [u8], at: usize) -> usize
     requires { ⌜ i < 8192 ⌝ }
-    ensures put { λ r. ⌜ Put (now (out .entry)) at (three (getD (now (memory .entry)) (3 * i) 0) (getD (now (memory .entry)) (3 * i + 1) 0) (getD (now (memory .entry)) (3 * i + 2) 0)) (now (out .exit)) r ⌝ }
+    ensures put { λ r. ⌜ Put (now (out .entry)) at (callLine (now (memory .entry)) i) (now (out .exit)) r ⌝ }
 {
     let caller = byte_at(memory, 3 * i);
     let address = byte_at(memory, 3 * i + 1);

@@ -1,5 +1,5 @@
 -- The lines of the call list: as many as it has calls, at most 8,192, and each printed from its three bytes. Assumes nothing.
-use mathlib.Core.Path.{_≡_, refl, sym, ap, _∙_}
+use mathlib.Core.Path.{_≡_, refl, ap, _∙_}
 use mathlib.Core.List.{List, _++_}
 use Prim.Native.Nat.{ℕ, zero, suc, _+_, _*_, _≤_}
 use native.Mathlib.Omega.{arith}
@@ -18,22 +18,11 @@ use Rattle.slots.specs.Layout.{claimIn}
 use Rattle.claim.specs.ReadClaim.{Reading as ClaimReading, refused as claimRefused, taken as claimTaken, readClaim}
 use Rattle.calls.specs.Bytes.{callBytes}
 use Rattle.calls.proofs.Bytes.{calls-back, call-list-short}
-use Rattle.program.proofs.Joined.{joined-more}
 use Rattle.checker.specs.Check.{Checking, turnedDown, short, broken, kept, decided, judged, withClaim, withProgram, checking}
 use Rattle.report.specs.Printed.{three, callLines}
 use Rattle.response.specs.Claimed.{linesFor}
 
 -- ---- the lines
--- the line of call i that stands in bytes
-abbrev lineAt : List ℕ → ℕ → List ℕ
-lineAt bytes i = three (getD bytes (3 * i) 0) (getD bytes (3 * i + 1) 0) (getD bytes (3 * i + 2) 0)
-
-lines-joined : (bytes : List ℕ) (k : ℕ) → callLines bytes k ≡ joined k (lineAt bytes)
-unfolding callLines
-lines-joined bytes zero = refl
-lines-joined bytes (suc k) =
-    ap (λ (l : List ℕ). l ++ lineAt bytes k) (lines-joined bytes k) ∙ sym (joined-more k (lineAt bytes))
-
 joined-lines : (n : ℕ) (f : ℕ → Made)
     → joined n (λ i. three (f i .caller) (f i .address) (f i .callee)) ≡ linesFor (tab n f)
 joined-lines zero f = refl
@@ -41,9 +30,9 @@ joined-lines (suc n) f =
     ap (λ (l : List ℕ). three (f 0 .caller) (f 0 .address) (f 0 .callee) ++ l) (joined-lines n (λ i. f (suc i)))
 
 pub lines-of : (calls : List Made) (rest : List ℕ) → callLines (callBytes calls ++ rest) (length calls) ≡ linesFor calls
+unfolding callLines
 lines-of calls rest =
-    lines-joined (callBytes calls ++ rest) (length calls)
-    ∙ joined-lines (length calls) (λ i. record {
+    joined-lines (length calls) (λ i. record {
       caller = getD (callBytes calls ++ rest) (3 * i) 0;
       address = getD (callBytes calls ++ rest) (3 * i + 1) 0;
       callee = getD (callBytes calls ++ rest) (3 * i + 2) 0;

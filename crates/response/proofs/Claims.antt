@@ -15,7 +15,9 @@ use Rattle.verdict.specs.declared.Verdict.{Verdict}
 use Rattle.checker.specs.Check.{Checking, turnedDown, short, broken, kept, withProgram, checking, answerFor, memoryAfter}
 use Rattle.report.specs.Printed.{printed}
 use Rattle.report.proofs.Longest.{longest}
+use Rattle.page.proofs.Puts.{whole}
 use Rattle.words.specs.Told.{told}
+use Rattle.words.proofs.Short.{told-short}
 use Rattle.response.specs.Claimed.{longer, saidOf, checkingOf, said, claimTold}
 use Rattle.response.proofs.Calls.{lines-of, Few, few-calls}
 
@@ -86,7 +88,8 @@ said-longest panel claim =
 abbrev pub Claimed : List ℕ → List ℕ → List ℕ → List ℕ → List ℕ → List ℕ → List ℕ → ℕ → ℕ → Type 0
 Claimed panel claim table before after line wrote n k =
     (n ≡ filledCount (said panel claim) before) × ((after ≡ filled (said panel claim) before)
-    × ((73737 ≤ length before → n ≡ length (said panel claim)) × Put line 0 (claimTold table panel claim) wrote k))
+    × ((73737 ≤ length before → n ≡ length (said panel claim))
+    × (Put line 0 (claimTold table panel claim) wrote k × (200 ≤ length line → k ≡ length (claimTold table panel claim)))))
 
 pub claimed : (panel claim table before after line wrote lent memory : List ℕ) (v : Verdict) (n k : ℕ)
     → Judged (checkingOf panel claim) v lent memory
@@ -97,13 +100,14 @@ unfolding claimTold
 claimed panel claim table before after line wrote lent memory v n k j printed-there told-there =
     let is = said-is panel claim lent memory v j in
     let count : n ≡ filledCount (said panel claim) before = rw is at (printed-there .0) in
-    let bytes : after ≡ filled (said panel claim) before = rw is at (printed-there .1) in (
+    let bytes : after ≡ filled (said panel claim) before = rw is at (printed-there .1) in
+    let told-so : Put line 0 (told table (answerFor (checkingOf panel claim))) wrote k = rw (j .0) at told-there in (
       count,
       (
         bytes,
         (
           λ h. count ∙ rw (le-leb (length (said panel claim)) (length before) (omega (arith, said-longest panel claim, h))),
-          rw (j .0) at told-there,
+          (told-so, λ h. whole told-so (omega (arith, told-short table (answerFor (checkingOf panel claim)), h)) .0),
         ),
       ),
     )

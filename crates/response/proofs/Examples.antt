@@ -1,7 +1,6 @@
 -- From texts to what is printed and told, by computation: the sample, in some steps and with its claim. Assumes nothing.
 use mathlib.Core.Path.{_≡_, ap}
 use native.Mathlib.Omega.{arith}
-use Prim.Native.String.{String}
 use Rattle.page.specs.Digits.{digitOf, decimalBy}
 use Rattle.instruction.specs.Word.{instructionOf, fieldsOf}
 use Rattle.reader.specs.Read.{Reading}

@@ -1,13 +1,12 @@
 -- What is printed of a run has at most 44,983 bytes: a line of at most 23, and those of the state; and the response to a run.
 -- Assumes nothing.
-use mathlib.Core.Path.{_≡_, refl, _∙_}
+use mathlib.Core.Path.{_≡_, refl, sym}
 use mathlib.Core.List.{List, _++_}
 use Prim.Native.Nat.{ℕ, _≤_}
 use native.Mathlib.Omega.{arith}
 use lib.ListN.{length, getD, drop, length-append}
-use borrow.Author.Tests.{le-leb}
 use Rattle.page.specs.Page.{Put}
-use Rattle.page.proofs.Puts.{front, put-as}
+use Rattle.page.proofs.Puts.{put-as, whole}
 use Rattle.program.specs.Tables.{programIn}
 use Rattle.reader.specs.Read.{Reading, refused, taken, readProgram}
 use Rattle.reader.proofs.WellFormed.{well-formed}
@@ -23,6 +22,7 @@ use Rattle.rows.specs.State.{stateText}
 use Rattle.rows.proofs.Longest.{state-longest}
 use Rattle.report.specs.Run.{pendingText, haltText, printedRun}
 use Rattle.words.specs.Told.{runTold}
+use Rattle.words.proofs.Short.{run-short}
 use Rattle.response.specs.Inside.{topOf}
 use Rattle.response.specs.Stepped.{runSaidOf, runSaid, runToldFor}
 use Rattle.response.proofs.Runs.{Stepped, registers-few, run-printed, run-told}
@@ -59,22 +59,13 @@ pub run-longest : (panel : List ℕ) (n : ℕ) → length (runSaid panel n) ≤ 
 unfolding runSaid
 run-longest panel n = said-short panel n (readProgram panel) refl
 
--- so it is put whole where there is room for so many
-pub run-whole : (panel : List ℕ) (n : ℕ) {out after : List ℕ} {k : ℕ} → Put out 0 (runSaid panel n) after k → 44983 ≤ length out
-    → (k ≡ length (runSaid panel n)) × (after ≡ runSaid panel n ++ drop (length (runSaid panel n)) out)
-run-whole panel n {out} p h =
-    let fits : length (runSaid panel n) ≤ length out = omega (arith, run-longest panel n) in
-    let there = front p fits in
-    let within = le-leb (length (runSaid panel n)) (length out) fits in
-    (there .0 ∙ rw within, there .1 ∙ rw within)
-
 -- ---- the response
 -- what is printed, whole where there is room for the longest, and what is told
 abbrev pub Responded : List ℕ → ℕ → List ℕ → List ℕ → List ℕ → ℕ → List ℕ → List ℕ → ℕ → Type 0
 Responded panel n table before after k line wrote j =
     Put before 0 (runSaid panel n) after k
     × ((44983 ≤ length before → (k ≡ length (runSaid panel n)) × (after ≡ runSaid panel n ++ drop (length (runSaid panel n)) before))
-    × Put line 0 (runToldFor table panel n) wrote j)
+    × (Put line 0 (runToldFor table panel n) wrote j × (200 ≤ length line → j ≡ length (runToldFor table panel n))))
 
 pub responded : (panel table : List ℕ) (n : ℕ) (t fs os ss : List ℕ) (o : Outcome) (t₁ fs₁ os₁ ss₁ : List ℕ)
     → Stepped panel n t fs os ss o t₁ fs₁ os₁ ss₁
@@ -86,4 +77,6 @@ responded panel table n t fs os ss o t₁ fs₁ os₁ ss₁ d top method address
     let said = put-as p (run-printed panel n t fs os ss o t₁ fs₁ os₁ ss₁ d) in
     let told : runTold table o method address ≡ runToldFor table panel n =
     rw (m, a, e) (run-told panel n t fs os ss o t₁ fs₁ os₁ ss₁ d table) in
-    (said, (λ h. run-whole panel n said h, put-as q told))
+    let short : length (runToldFor table panel n) ≤ 200 = rw (sym told) (run-short table o method address) in
+    let told-so = put-as q told in
+    (said, (λ h. whole said (omega (arith, run-longest panel n, h)), (told-so, λ h. whole told-so (omega (arith, short, h)) .0)))

@@ -66,6 +66,7 @@ pub fn of_claim(
     ensures bytes { λ r. ⌜ now (out .exit) ≡ filled (said (now (panel .entry)) (now (claim .entry))) (now (out .entry)) ⌝ }
     ensures whole { λ r. ⌜ (73737 ≤ length (now (out .entry)) → r .printed ≡ length (said (now (panel .entry)) (now (claim .entry)))) ⌝ }
     ensures words { λ r. ⌜ Put (now (line .entry)) 0 (claimTold (now (table .entry)) (now (panel .entry)) (now (claim .entry))) (now (line .exit)) (r .told) ⌝ }
+    ensures all_words { λ r. ⌜ (200 ≤ length (now (line .entry)) → r .told ≡ length (claimTold (now (table .entry)) (now (panel .entry)) (now (claim .entry)))) ⌝ }
 {
     let mut memory = lent();
     let v = judge(panel, claim, &mut memory);

@@ -45,6 +45,7 @@ pub fn of_run(panel: &[u8], n: u64, table: &[u8], out: &mut [u8], line: &mut [u8
     ensures bytes { λ r. ⌜ Put (now (out .entry)) 0 (runSaid (now (panel .entry)) n) (now (out .exit)) (r .printed) ⌝ }
     ensures whole { λ r. ⌜ (44983 ≤ length (now (out .entry)) → (r .printed ≡ length (runSaid (now (panel .entry)) n)) × (now (out .exit) ≡ runSaid (now (panel .entry)) n ++ drop (length (runSaid (now (panel .entry)) n)) (now (out .entry)))) ⌝ }
     ensures words { λ r. ⌜ Put (now (line .entry)) 0 (runToldFor (now (table .entry)) (now (panel .entry)) n) (now (line .exit)) (r .told) ⌝ }
+    ensures all_words { λ r. ⌜ (200 ≤ length (now (line .entry)) → r .told ≡ length (runToldFor (now (table .entry)) (now (panel .entry)) n)) ⌝ }
 {
     let mut t = [0u64; 768];
     let mut fs = frames();

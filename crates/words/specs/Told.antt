@@ -8,6 +8,7 @@ use Rattle.page.specs.Digits.{decimal}
 use Rattle.machine.specs.State.{faultNumber}
 use Rattle.turn.specs.declared.Halt.{Halt}
 use Rattle.turn.specs.declared.Halt.the-variants.{Done, Uncaught, Faulted, FullStore, FullStack, StepsMade, Outside}
+use Rattle.turn.specs.Stop.{haltNumber}
 use Rattle.bounded.specs.declared.Outcome.{Outcome}
 use Rattle.bounded.specs.declared.Outcome.the-variants as outcome
 use Rattle.verdict.specs.declared.Verdict.{Verdict}
@@ -64,10 +65,10 @@ abbrev pub haltTold : List ℕ → Halt → ℕ → ℕ → List ℕ
 haltTold table Done method address = []
 haltTold table Uncaught method address = []
 haltTold table (Faulted e) method address = placedText table faultLabel faultKind (faultNumber e) method address
-haltTold table FullStore method address = placedText table stopLabel numberKind 20 method address
-haltTold table FullStack method address = placedText table stopLabel numberKind 21 method address
-haltTold table StepsMade method address = placedText table stopLabel numberKind 22 method address
-haltTold table Outside method address = placedText table stopLabel numberKind 24 method address
+haltTold table FullStore method address = placedText table stopLabel numberKind (haltNumber FullStore) method address
+haltTold table FullStack method address = placedText table stopLabel numberKind (haltNumber FullStack) method address
+haltTold table StepsMade method address = placedText table stopLabel numberKind (haltNumber StepsMade) method address
+haltTold table Outside method address = placedText table stopLabel numberKind (haltNumber Outside) method address
 
 -- what became of a text that was stepped
 abbrev pub runTold : List ℕ → Outcome → ℕ → ℕ → List ℕ
