@@ -6,8 +6,11 @@ use native.Mathlib.Nat.{add-zero}
 use native.Mathlib.Omega.{arith}
 use lib.ListN.{drop}
 use Rattle.text.specs.declared.LineRead.the-variants.{Whole, Broken, End}
-use Rattle.text.specs.Hex.{linesOf, lineReadOf, numberOf, digitsAt}
-use Rattle.text.proofs.Lines.{next-line, broken-line, no-line}
+use Rattle.text.specs.Hex.{linesOf, numberOf, digitsAt}
+use Rattle.lines.specs.declared.Cursor.{Cursor}
+use Rattle.lines.specs.declared.Found.{Found}
+use Rattle.lines.specs.Cursors.{foundAt}
+use Rattle.lines.proofs.Cursors.{found-none, found-broken, found-whole}
 use Rattle.instruction.specs.Word.{pick}
 use Rattle.reader.specs.Inside.{lineAt}
 use Rattle.claim.specs.ReadClaim.{known}
@@ -21,17 +24,17 @@ unfolding known
 other-line s at d two = rw (line-digits s at d 0 2 (omega arith) (omega arith), add-zero at)
 
 -- the line after the frames due
-module _ (s : List ℕ) (at : ℕ) where
-  pub last-end : lineReadOf (linesOf (drop at s)) ≡ End → lastNumber (linesOf (drop at s)) ≡ 0
-  last-end e = rw (no-line s at e)
+module _ (s : List ℕ) (c : Cursor) (f : Found) (found : f ≡ foundAt s c) where
+  pub last-end : f .read ≡ End → lastNumber (linesOf (drop (c .at) s)) ≡ 0
+  last-end e = rw (found-none s c f found e)
 
-  pub last-broken : lineReadOf (linesOf (drop at s)) ≡ Broken → lastNumber (linesOf (drop at s)) ≡ 10
+  pub last-broken : f .read ≡ Broken → lastNumber (linesOf (drop (c .at) s)) ≡ 10
   last-broken e =
-      let (l, ls, h, w) = broken-line s at e in
+      let (l, ls, h, w) = found-broken s c f found e in
       rw (h, w)
 
-  pub last-whole : (d : ℕ) → lineReadOf (linesOf (drop at s)) ≡ Whole d
-      → (2 ≤ d) × (lastNumber (linesOf (drop at s)) ≡ pick (known (lineAt s at d)) 12 11)
+  pub last-whole : (d : ℕ) → f .read ≡ Whole d
+      → (2 ≤ d) × (lastNumber (linesOf (drop (c .at) s)) ≡ pick (known (lineAt s (c .at) d)) 12 11)
   last-whole d e =
-      let w = next-line s at d e in
+      let w = found-whole s c f found d e in
       (omega (arith, w .1, w .2), rw (w .3, w .4))

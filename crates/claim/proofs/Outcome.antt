@@ -13,7 +13,7 @@ use Rattle.program.specs.Program.{Program}
 use Rattle.slots.specs.Layout.{noMasks}
 use Rattle.claim.specs.declared.Answer.{Answer}
 use Rattle.claim.specs.declared.Answer.the-variants.{Read, TooLong}
-use Rattle.claim.specs.declared.Cursor.{Cursor}
+use Rattle.claim.specs.declared.Status.{Status}
 use Rattle.claim.specs.Frames.{Due, framesDue}
 use Rattle.claim.specs.ReadClaim.{refused, taken, known, isDue, head, masksFrom, Progress, stopped, reached, onward, takeFrame, takeFrames, ended, readClaim, readingNumber, readingValues, masksAfter, numberOf, valuesOf}
 use Rattle.claim.specs.Inside.{progressOf, lastNumber, answerOf}
@@ -98,32 +98,32 @@ module _ (p : Program) (text before : List ℕ) where
   unfolding readClaim
   told-long h = rw (lt-ltb 262144 (length text) h) ((refl, refl), refl)
 
-  module _ (short : length text ≤ 262144) (c : Cursor) (ws none : List ℕ) (empty : none ≡ noMasks)
+  module _ (short : length text ≤ 262144) (c : Status) (ws none : List ℕ) (empty : none ≡ noMasks)
       (w : progressOf text c ws ≡ takeFrames p (framesDue p) (reached (linesOf text) 1 none)) where
     read-is : readClaim p text ≡ ended (progressOf text c ws)
     unfolding readClaim
     read-is = rw (le-ltb 262144 (length text) short, w, empty)
 
-    pub told-stopped : (a : Answer) → (c .number ≡ 0 → ⊥) → a ≡ answerOf (c .number) (c .line) → Told p text before before a
+    pub told-stopped : (a : Answer) → (c .number ≡ 0 → ⊥) → a ≡ answerOf (c .number) (c .place .line) → Told p text before before a
     unfolding ended
     told-stopped a h f =
-        let s : progressOf text c ws ≡ stopped (c .number) (c .line) = rw (ne-eqb (c .number) 0 h) in
-        let k : Numbered (stopped (c .number) (c .line)) =
+        let s : progressOf text c ws ≡ stopped (c .number) (c .place .line) = rw (ne-eqb (c .number) 0 h) in
+        let k : Numbered (stopped (c .number) (c .place .line)) =
         subst Numbered (sym w ∙ s) (frames-numbered p (framesDue p) (reached (linesOf text) 1 none) tt) in
-        told-refused (c .number) (c .line) a (read-is ∙ ap ended s) (k .0) (k .1) f
+        told-refused (c .number) (c .place .line) a (read-is ∙ ap ended s) (k .0) (k .1) f
 
-    module _ (z : c .number ≡ 0) (more : ℕ) (e : more ≡ lastNumber (linesOf (drop (c .at) text))) where
-      reached-is : progressOf text c ws ≡ reached (linesOf (drop (c .at) text)) (c .line) ws
+    module _ (z : c .number ≡ 0) (more : ℕ) (e : more ≡ lastNumber (linesOf (drop (c .place .at) text))) where
+      reached-is : progressOf text c ws ≡ reached (linesOf (drop (c .place .at) text)) (c .place .line) ws
       reached-is = rw (eq-eqb (c .number) 0 z)
 
-      pub told-more : (a : Answer) → (more ≡ 0 → ⊥) → a ≡ answerOf more (c .line) → Told p text before before a
+      pub told-more : (a : Answer) → (more ≡ 0 → ⊥) → a ≡ answerOf more (c .place .line) → Told p text before before a
       told-more a h f =
-          let r = last-is (linesOf (drop (c .at) text)) (c .line) ws (λ y. h (e ∙ y)) in
-          told-refused (lastNumber (linesOf (drop (c .at) text))) (c .line) a (read-is ∙ ap ended reached-is ∙ r .0) (r .1) (r .2)
+          let r = last-is (linesOf (drop (c .place .at) text)) (c .place .line) ws (λ y. h (e ∙ y)) in
+          told-refused (lastNumber (linesOf (drop (c .place .at) text))) (c .place .line) a (read-is ∙ ap ended reached-is ∙ r .0) (r .1) (r .2)
           (rw e at f)
 
       pub told-read : more ≡ 0 → Told p text before ws Read
       told-read y =
           let r : readClaim p text ≡ taken ws =
-          read-is ∙ ap ended reached-is ∙ last-none (linesOf (drop (c .at) text)) (c .line) ws (sym e ∙ y) in
+          read-is ∙ ap ended reached-is ∙ last-none (linesOf (drop (c .place .at) text)) (c .place .line) ws (sym e ∙ y) in
           rw r ((refl, refl), refl)

@@ -7,6 +7,7 @@ use Prim.Native.Nat.{ℕ, _+_, _*_, _-_, _^_, _≤_}
 use lib.Dec.{eqb, leb, ltb}
 use lib.ListN.{length, drop, set}
 use Rattle.text.specs.Hex.{Line, linesOf, whole, numberOf as hexOf, digitsAt}
+use Rattle.lines.specs.declared.Cursor.{Cursor}
 use Rattle.instruction.specs.Word.{pick}
 use Rattle.mask.specs.Mask.{subset}
 use Rattle.program.specs.Lists.{tab}
@@ -19,7 +20,7 @@ use Rattle.claim.specs.declared.Answer.the-variants.{BadLine, UnknownKin
 use Rattle.claim.specs.declared.Part.{Part}
 use Rattle.claim.specs.declared.Part.the-variants.{Address, Field, Static, Returned, Leaving}
 use Rattle.claim.specs.declared.Frame.{Frame}
-use Rattle.claim.specs.declared.Cursor.{Cursor}
+use Rattle.claim.specs.declared.Status.{Status}
 use Rattle.claim.specs.Frames.{Due, due}
 use Rattle.claim.specs.ReadClaim.{digitsFrom, known, head, isDue, masksFrom, Progress, stopped, reached, onward}
 
@@ -93,17 +94,18 @@ takeWhole p d l ls n ws =
 abbrev pub afterLine : ℕ → List Line → ℕ → List ℕ → Progress
 afterLine number ls n ws = pick (eqb number 0) (reached ls (n + 1) ws) (stopped number n)
 
-abbrev pub cursor : ℕ → ℕ → ℕ → Cursor
-cursor number at line = record { number = number; at = at; line = line }
+abbrev pub status : ℕ → Cursor → Status
+status number place = record { number = number; place = place }
 
--- a cursor in a text: not past its end, and no more lines than bytes before it
-abbrev pub Placed : Cursor → List ℕ → Type 0
-Placed c text = (c .at ≤ length text) × (c .line ≤ c .at + 1)
+-- a walk in a text: not past its end, and no more lines than bytes before it
+abbrev pub Placed : Status → List ℕ → Type 0
+Placed s text = (s .place .at ≤ length text) × (s .place .line ≤ s .place .at + 1)
 
--- how far a walk by line came: the refusal, or the lines from the cursor on
-abbrev pub progressOf : List ℕ → Cursor → List ℕ → Progress
-progressOf text c ws =
-    pick (eqb (c .number) 0) (reached (linesOf (drop (c .at) text)) (c .line) ws) (stopped (c .number) (c .line))
+-- how far a walk by line came: the refusal, or the lines from its cursor on
+abbrev pub progressOf : List ℕ → Status → List ℕ → Progress
+progressOf text s ws =
+    pick (eqb (s .number) 0) (reached (linesOf (drop (s .place .at) text)) (s .place .line) ws)
+    (stopped (s .number) (s .place .line))
 
 -- the refusal's number of a whole line of this kind that is not the frame due
 abbrev pub otherNumber : ℕ → ℕ

@@ -3,6 +3,7 @@ mod due; // due.rt: the frames due
 mod line; // line.rt: one line
 mod walk; // walk.rt: line after line
 
+use lines::Cursor;
 ghost use mathlib.Core.Path.{_≡_};
 ghost use Rattle.program.specs.Tables.{programIn};
 ghost use Rattle.slots.specs.Layout.{noMasks};
@@ -38,11 +39,10 @@ pub struct Frame {
     pub allowed: u64,
 }
 
-// Where a walk by line stands: the number of a refusal or 0, the place of the next line, and that line's number.
-pub struct Cursor {
+// How a walk by line stands: the number of a refusal or 0, and the cursor of the line that it is at.
+pub struct Status {
     pub number: usize,
-    pub at: usize,
-    pub line: usize,
+    pub place: Cursor,
 }
 
 // Document 01's number of an answer, 0 for one that is no refusal.
@@ -95,12 +95,13 @@ fn read_by(t: &[u64; 768], text: &[u8], draft: &mut [u64; 9712], w: &mut [u64; 9
         return Answer::TooLong;
     }
     let end = walk::take_parts(t, text, &mut *draft);
+    let place = end.place;
     if end.number != 0 {
-        return refusal(end.number, end.line);
+        return refusal(end.number, place.line);
     }
-    let more = walk::after_last(text, end.at);
+    let more = walk::after_last(text, place);
     if more != 0 {
-        return refusal(more, end.line);
+        return refusal(more, place.line);
     }
     *w = *draft;
     Answer::Read

@@ -1,8 +1,9 @@
-// The walk by line: the frames due, in their order, each taken where the cursor stands.
-use super::Cursor;
+// The walk by line: the frames due, in their order, each taken where the walk stands.
 use super::Part;
+use super::Status;
 use super::due;
 use super::line;
+use lines::Cursor;
 use text::LineRead;
 ghost use mathlib.Core.Path.{_≡_};
 ghost use lib.ListN.{drop};
@@ -13,16 +14,16 @@ ghost use Rattle.claim.specs.Frames.{inner, frameAt, partDue, framesDue}
 ghost use Rattle.claim.specs.ReadClaim.{reached, takeFrame, takeFrames};
 ghost use Rattle.claim.specs.Inside.{dueAt, Placed, progressOf, lastNumber};
 
-// Takes the line where the cursor stands as the frame at these two numbers.
+// Takes the line where the walk stands as the frame at these two numbers.
 fn take_frame(
     t: &[u64; 768],
     text: &[u8],
-    from: Cursor,
+    from: Status,
     k: Part,
     a: usize,
     b: usize,
     w: &mut [u64; 9712],
-) -> Cursor
+) -> Status
     requires { ⌜ Placed from (now text) ⌝ }
     ensures place { λ r. ⌜ Placed r (now (text .entry)) ⌝ }
     ensures progress { λ r. ⌜ progressOf (now (text .entry)) r (now (w .exit)) ≡ takeFrame (programIn (now (t .entry))) (dueAt (programIn (now (t .entry))) k a b) (progressOf (now (text .entry)) from (now (w .entry))) ⌝ }
@@ -30,32 +31,19 @@ fn take_frame(
     if from.number != 0 {
         return from;
     }
-    let read = text::line_at(text, from.at);
+    let place = from.place;
+    let found = lines::read_line(text, place);
+    let read = found.read;
     match read {
-        LineRead::End => return Cursor {
-            number: 12,
-            at: from.at,
-            line: from.line,
-        },
-        LineRead::Broken => return Cursor {
-            number: 10,
-            at: from.at,
-            line: from.line,
-        },
+        LineRead::End => return Status { number: 12, place },
+        LineRead::Broken => return Status { number: 10, place },
         LineRead::Whole(digits) => {
-            let number = line::take_line(t, text, from.at, digits, k, a, b, w);
+            let number = line::take_line(t, text, place.at, digits, k, a, b, w);
             if number != 0 {
-                return Cursor {
-                    number,
-                    at: from.at,
-                    line: from.line,
-                };
+                return Status { number, place };
             }
-            Cursor {
-                number: 0,
-                at: from.at + digits + 1,
-                line: from.line + 1,
-            }
+            let place = found.next;
+            Status { number: 0, place }
         }
     }
 }
@@ -64,12 +52,12 @@ fn take_frame(
 fn take_at(
     t: &[u64; 768],
     text: &[u8],
-    from: Cursor,
+    from: Status,
     k: Part,
     a: usize,
     b: usize,
     w: &mut [u64; 9712],
-) -> Cursor
+) -> Status
     requires { ⌜ Placed from (now text) ⌝ }
     ensures place { λ r. ⌜ Placed r (now (text .entry)) ⌝ }
     ensures progress { λ r. ⌜ progressOf (now (text .entry)) r (now (w .exit)) ≡ takeFrames (programIn (now (t .entry))) (frameAt (programIn (now (t .entry))) k a b) (progressOf (now (text .entry)) from (now (w .entry))) ⌝ }
@@ -84,11 +72,11 @@ fn take_at(
 fn take_row(
     t: &[u64; 768],
     text: &[u8],
-    from: Cursor,
+    from: Status,
     k: Part,
     a: usize,
     w: &mut [u64; 9712],
-) -> Cursor
+) -> Status
     requires { ⌜ Placed from (now text) ⌝ }
     ensures place { λ r. ⌜ Placed r (now (text .entry)) ⌝ }
     ensures progress { λ r. ⌜ progressOf (now (text .entry)) r (now (w .exit)) ≡ takeFrames (programIn (now (t .entry))) (joined (inner (programIn (now (t .entry))) k a) (frameAt (programIn (now (t .entry))) k a)) (progressOf (now (text .entry)) from (now (w .entry))) ⌝ }
@@ -104,7 +92,7 @@ fn take_row(
 }
 
 // Takes the frames of a part.
-fn take_part(t: &[u64; 768], text: &[u8], from: Cursor, k: Part, w: &mut [u64; 9712]) -> Cursor
+fn take_part(t: &[u64; 768], text: &[u8], from: Status, k: Part, w: &mut [u64; 9712]) -> Status
     requires { ⌜ Placed from (now text) ⌝ }
     ensures place { λ r. ⌜ Placed r (now (text .entry)) ⌝ }
     ensures progress { λ r. ⌜ progressOf (now (text .entry)) r (now (w .exit)) ≡ takeFrames (programIn (now (t .entry))) (partDue (programIn (now (t .entry))) k) (progressOf (now (text .entry)) from (now (w .entry))) ⌝ }
@@ -120,13 +108,12 @@ fn take_part(t: &[u64; 768], text: &[u8], from: Cursor, k: Part, w: &mut [u64; 9
 }
 
 // Takes all frames due.
-pub fn take_parts(t: &[u64; 768], text: &[u8], w: &mut [u64; 9712]) -> Cursor
+pub fn take_parts(t: &[u64; 768], text: &[u8], w: &mut [u64; 9712]) -> Status
     ensures progress { λ r. ⌜ progressOf (now (text .entry)) r (now (w .exit)) ≡ takeFrames (programIn (now (t .entry))) (framesDue (programIn (now (t .entry)))) (reached (linesOf (now (text .entry))) 1 (now (w .entry))) ⌝ }
 {
-    let start = Cursor {
+    let start = Status {
         number: 0,
-        at: 0,
-        line: 1,
+        place: Cursor { at: 0, line: 1 },
     };
     let addresses = take_part(t, text, start, Part::Address, &mut *w);
     let fields = take_part(t, text, addresses, Part::Field, &mut *w);
@@ -136,13 +123,14 @@ pub fn take_parts(t: &[u64; 768], text: &[u8], w: &mut [u64; 9712]) -> Cursor
 }
 
 // The refusal's number of the line after the frames due: 0 where there is no line.
-pub fn after_last(text: &[u8], at: usize) -> usize
-    ensures value { λ r. ⌜ r ≡ lastNumber (linesOf (drop at (now (text .entry)))) ⌝ }
+pub fn after_last(text: &[u8], place: Cursor) -> usize
+    ensures value { λ r. ⌜ r ≡ lastNumber (linesOf (drop (place .at) (now (text .entry)))) ⌝ }
 {
-    let read = text::line_at(text, at);
+    let found = lines::read_line(text, place);
+    let read = found.read;
     match read {
         LineRead::End => 0,
         LineRead::Broken => 10,
-        LineRead::Whole(digits) => due::other_number(text, at),
+        LineRead::Whole(digits) => due::other_number(text, place.at),
     }
 }

@@ -1,6 +1,7 @@
 // The reader: a program text into tables that the caller lends, or a refusal with its number and line.
 use frame::Counts;
 use frame::Step;
+use lines::Cursor;
 use marks::Stop;
 use text::LineRead;
 ghost use mathlib.Core.Path.{_≡_};
@@ -75,8 +76,7 @@ fn walk(text: &[u8], t: &mut [u64; 768]) -> Stop
     requires { ⌜ now t ≡ tablesOf noProgram ⌝ }
     ensures read { λ r. ⌜ Walked (readLines (linesOf (now (text .entry))) noProgram 1) r (now (t .exit)) ⌝ }
 {
-    let mut at: usize = 0;
-    let mut line: usize = 1;
+    let mut from = Cursor { at: 0, line: 1 };
     let mut n = Counts {
         classes: 0,
         fields: 0,
@@ -86,7 +86,9 @@ fn walk(text: &[u8], t: &mut [u64; 768]) -> Stop
         handlers: 0,
     };
     loop {
-        let read = text::line_at(text, at);
+        let line = from.line;
+        let found = lines::read_line(text, from);
+        let read = found.read;
         match read {
             LineRead::End => {
                 if frame::may_end(n) {
@@ -96,7 +98,7 @@ fn walk(text: &[u8], t: &mut [u64; 768]) -> Stop
             }
             LineRead::Broken => return Stop { number: 2, line },
             LineRead::Whole(digits) => {
-                let step = take_frame(text, at, digits, n, &mut *t);
+                let step = take_frame(text, from.at, digits, n, &mut *t);
                 if step.number != 0 {
                     return Stop {
                         number: step.number,
@@ -104,8 +106,7 @@ fn walk(text: &[u8], t: &mut [u64; 768]) -> Stop
                     };
                 }
                 n = step.counts;
-                at += digits + 1;
-                line += 1;
+                from = found.next;
             }
         }
     }

@@ -18,10 +18,10 @@ refusal-requires c κs = tt
 
 returns-2 : tie.Need-returns-2
 returns-2 c =
-    let start = c .before .before .before .before .before .before .before in
+    let start = c .before .before .before .before .before .before .before .before in
     let a = start .args in
-    let if1 = c .before .before .before .before .before .if1 in
-    let take-parts = c .before .before .before .take-parts in
+    let if1 = c .before .before .before .before .before .before .if1 in
+    let take-parts = c .before .before .before .before .take-parts in
     told-stopped (programIn (a .t .now)) (a .text .now) (a .w .now) (omega (arith, if1 .left)) (take-parts .result) _
     (a .draft .now) (start .pre) (take-parts .ensures) (c .refusal .result) (c .before .if2 .taken)
     (c .refusal .ensures)
@@ -34,10 +34,10 @@ refusal-requires-2 c κs = tt
 
 returns-3 : tie.Need-returns-3
 returns-3 c =
-    let start = c .before .before .before .before .before .before .before .before .before in
+    let start = c .before .before .before .before .before .before .before .before .before .before in
     let a = start .args in
-    let if1 = c .before .before .before .before .before .before .before .if1 in
-    let take-parts = c .before .before .before .before .before .take-parts in
+    let if1 = c .before .before .before .before .before .before .before .before .if1 in
+    let take-parts = c .before .before .before .before .before .before .take-parts in
     let if2 = c .before .before .before .if2 in
     let after-last = c .before .before .after-last in
     told-more (programIn (a .t .now)) (a .text .now) (a .w .now) (omega (arith, if1 .left)) (take-parts .result) _
@@ -46,10 +46,10 @@ returns-3 c =
 
 returns-4 : tie.Need-returns-4
 returns-4 c =
-    let start = c .before .before .before .before .before .before .before .before .before in
+    let start = c .before .before .before .before .before .before .before .before .before .before in
     let a = start .args in
-    let if1 = c .before .before .before .before .before .before .before .if1 in
-    let take-parts = c .before .before .before .before .before .take-parts in
+    let if1 = c .before .before .before .before .before .before .before .before .if1 in
+    let take-parts = c .before .before .before .before .before .before .take-parts in
     let if2 = c .before .before .before .if2 in
     let after-last = c .before .before .after-last in
     told-read (programIn (a .t .now)) (a .text .now) (a .w .now) (omega (arith, if1 .left)) (take-parts .result) _

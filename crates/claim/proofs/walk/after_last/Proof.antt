@@ -5,8 +5,8 @@ use borrow.Author.Needs.{needs}
 use Rattle.claim.proofs.walk.after_last.Statement.{statement}
 use Rattle.claim.proofs.walk.after_last.Tie as tie
 
-line-at-requires : tie.Need-line-at-requires
-line-at-requires c κs = tt
+read-line-requires : tie.Need-read-line-requires
+read-line-requires c κs = tt
 
 enum-told : tie.Need-enum-told
 enum-told c = c .match .keys1
@@ -23,28 +23,29 @@ other-number-requires c κs = tt
 returns : tie.Need-returns
 returns c =
     let a = c .before .before .before .before .args in
-    let line-at = c .before .before .line-at in
-    sym (last-end (a .text .now) (a .at) (sym (line-at .ensures) ∙ c .enum-told .given .1))
+    let found = c .before .before .read-line in
+    sym (last-end (a .text .now) (a .place) (found .result) (found .ensures) (c .enum-told .given .1))
 
 returns-2 : tie.Need-returns-2
 returns-2 c =
     let a = c .before .before .before .before .args in
-    let line-at = c .before .before .line-at in
-    sym (last-broken (a .text .now) (a .at) (sym (line-at .ensures) ∙ c .enum-told2 .given .1))
+    let found = c .before .before .read-line in
+    sym (last-broken (a .text .now) (a .place) (found .result) (found .ensures) (c .enum-told2 .given .1))
 
 returns-3 : tie.Need-returns-3
 returns-3 c =
     let a = c .before .before .before .before .before .before .args in
-    let line-at = c .before .before .before .before .line-at in
+    let found = c .before .before .before .before .read-line in
     let read = c .before .before .read in
-    let (two, e) = last-whole (a .text .now) (a .at) (read .given .0 .0) (sym (line-at .ensures) ∙ read .given .1) in
-    c .other-number .ensures ∙ other-line (a .text .now) (a .at) (read .given .0 .0) two ∙ sym e
+    let d = read .given .0 .0 in
+    let (two, e) = last-whole (a .text .now) (a .place) (found .result) (found .ensures) d (read .given .1) in
+    c .other-number .ensures ∙ other-line (a .text .now) (a .place .at) d two ∙ sym e
 
 pub after-last-spec : {M : Type 1} → statement M
 after-last-spec =
     tie.close
     (tie.spec
-    line-at-requires
+    read-line-requires
     enum-told
     enum-told-2
     enum-known-read

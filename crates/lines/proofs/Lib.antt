@@ -1,0 +1,4 @@
+pub mod Calls
+pub mod Cursors
+pub mod Examples
+pub mod Readers
