@@ -71,7 +71,7 @@ fn put(answer: &mut [u64], number: u64, first: u64, pending: u64, frames: u64, o
     number
 }
 
-// Writes what `stepper::step` answered as five words, and answers its number.
+// Writes what `plain::step` answered as five words, and answers its number.
 pub fn put_outcome(answer: &mut [u64], o: Outcome) -> u64
     ensures number { λ r. ⌜ r ≡ numberOf o ⌝ }
     ensures memory { λ r. ⌜ now (answer .exit) ≡ answered (numberOf o) (valuesOf o) (now (answer .entry)) ⌝ }

@@ -1,6 +1,7 @@
 -- Laws that tell the stepper's answers apart, and examples.
 pub mod Stops
 pub mod Left
+pub mod Lending
 pub mod Outcomes
 pub mod Laws
 pub mod Texts

@@ -31,7 +31,7 @@ pub extern "C" fn hudzmoke_step(
     ensures answer { λ r. ⌜ now (answer .exit) ≡ answered (steppingNumber (stepping (now (text .entry)) n (now (frames .entry)) (now (objects .entry)) (now (statics .entry)))) (steppingValues (stepping (now (text .entry)) n (now (frames .entry)) (now (objects .entry)) (now (statics .entry)))) (now (answer .entry)) ⌝ }
     ensures memory { λ r. ⌜ (now (frames .exit) ≡ framesAfter (stepping (now (text .entry)) n (now (frames .entry)) (now (objects .entry)) (now (statics .entry))) (now (frames .entry))) × (now (objects .exit) ≡ objectsAfter (stepping (now (text .entry)) n (now (frames .entry)) (now (objects .entry)) (now (statics .entry))) (now (objects .entry))) × (now (statics .exit) ≡ staticsAfter (stepping (now (text .entry)) n (now (frames .entry)) (now (objects .entry)) (now (statics .entry))) (now (statics .entry))) ⌝ }
 {
-    let outcome = stepper::step(text, n, frames, objects, statics);
+    let outcome = plain::step(text, n, frames, objects, statics);
     answer::put_outcome(answer, outcome)
 }
 

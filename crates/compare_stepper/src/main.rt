@@ -1,4 +1,4 @@
-// Runs every case of the four files in data/ by `stepper::step` and prints its answer and a checksum of the memory that
+// Runs every case of the four files in data/ by `plain::step` and prints its answer and a checksum of the memory that
 // it was lent. What must be printed comes from the second implementation (compare/).
 use cases::Next;
 use libc::STDOUT_FILENO;
@@ -37,7 +37,7 @@ fn print_answer(answer: &[u64; 5]) {
 
 fn step(text: &[u8], n: u64, frames: &mut [u64], objects: &mut [u64], statics: &mut [u64]) {
     let mut answer = [0u64; 5];
-    let outcome = stepper::step(text, n, frames, objects, statics);
+    let outcome = plain::step(text, n, frames, objects, statics);
     answer::put_outcome(&mut answer, outcome);
     print_answer(&answer);
 }

@@ -51,7 +51,7 @@ pub fn of_run(panel: &[u8], n: u64, table: &[u8], out: &mut [u8], line: &mut [u8
     let mut fs = frames();
     let mut os = objects();
     let mut ss = statics();
-    let o = stepper::step_in(panel, n, &mut t, &mut fs, &mut os, &mut ss);
+    let o = plain::step_in(panel, n, &mut t, &mut fs, &mut os, &mut ss);
     let printed = report::write_run(o, &t, &fs, &os, &ss, out);
     let place = memory::place_of(&fs, top_of(o));
     let told = words::tell_run(o, place.method, place.address, table, line);

@@ -1,3 +1,5 @@
 -- What the proofs of the stepper's functions use.
-pub mod Begun
 pub mod Answers
+pub mod Kept
+pub mod Said
+pub mod WalkStart

@@ -1,0 +1,2 @@
+-- Laws of values in lent slices.
+pub mod Values

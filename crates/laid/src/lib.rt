@@ -1,0 +1,1 @@
+// The laws of a state in lent slices (proofs/). No code.

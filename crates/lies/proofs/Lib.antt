@@ -1,0 +1,6 @@
+-- What the crates above use of a state that lies in the lent slices.
+pub mod Values
+pub mod Looks
+pub mod Worked
+pub mod Effects
+pub mod Staying

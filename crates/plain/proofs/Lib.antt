@@ -1,0 +1,3 @@
+-- What the proofs of the stepper's functions use.
+pub mod Begun
+pub mod Answers

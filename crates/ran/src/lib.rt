@@ -1,0 +1,1 @@
+// The run's loops reach what the stepper must answer (specs/ and proofs/). No code.

@@ -1,0 +1,42 @@
+-- `shift::stays::at_of` meets its contract. Assumes nothing.
+use native.Mathlib.Omega.{arith}
+use Rattle.shift.proofs.stays.at_of.Statement.{statement}
+use Rattle.shift.proofs.stays.at_of.Tie as tie
+
+cast-code-word : tie.Need-cast-code-word
+cast-code-word c = omega arith
+
+cast-code-word-2 : tie.Need-cast-code-word-2
+cast-code-word-2 c = omega arith
+
+code-word-requires : tie.Need-code-word-requires
+code-word-requires c κs = tt
+
+again-left-requires : tie.Need-again-left-requires
+again-left-requires c κs = tt
+
+cast-t14 : tie.Need-cast-t14
+cast-t14 c = omega arith
+
+opcode-requires : tie.Need-opcode-requires
+opcode-requires c κs = tt
+
+returns : tie.Need-returns
+returns c =
+    rw (
+      c .opcode .ensures,
+      c .before .before .again-left .ensures,
+      c .before .before .before .code-word .ensures,
+    )
+
+pub at-of-spec : {M : Type 1} → statement M
+at-of-spec =
+    tie.close
+    (tie.spec
+    cast-code-word
+    cast-code-word-2
+    code-word-requires
+    again-left-requires
+    cast-t14
+    opcode-requires
+    returns)

@@ -1,0 +1,186 @@
+// What an effect comes to that does not stay in its frame.
+use super::At;
+use super::Pass;
+use super::Run;
+use super::Shift;
+use super::Stop;
+use super::below_of;
+use super::counts;
+use super::top_of;
+use machine::Effect;
+use turn::Status;
+use turn::Tally;
+ghost use mathlib.Core.Path.{_≡_};
+ghost use Rattle.program.specs.Tables.{programIn};
+ghost use Rattle.shift.specs.Shift.{only, followingOf, noPass, skippedOf, passTo, madeBy, calledBy, exitedBy, shifted};
+
+pub fn no_pass() -> Pass
+    ensures value { λ r. ⌜ r ≡ noPass ⌝ }
+{
+    Pass {
+        from: 0,
+        to: 0,
+        count: 0,
+        top: 0,
+        above: 0,
+    }
+}
+
+// Nothing is written.
+pub fn only(run: Run) -> Shift
+    ensures value { λ r. ⌜ r ≡ only run ⌝ }
+{
+    Shift {
+        popped: 18446744073709551615,
+        resumed: 18446744073709551615,
+        value: cells::zero_value(),
+        moved: 18446744073709551615,
+        next: 0,
+        made: 18446744073709551615,
+        class: 0,
+        wrote: 18446744073709551615,
+        to: 16,
+        pass: no_pass(),
+        entered: 18446744073709551615,
+        method: 0,
+        run,
+    }
+}
+
+// new-instance: an object is made, unless 256 are, and register `to` refers to it.
+fn made(h: At, to: u8, class: u8) -> Shift
+    ensures value { λ r. ⌜ r ≡ madeBy h to class ⌝ }
+{
+    let run = h.run;
+    let tally = run.tally;
+    let made = tally.made;
+    if 256 <= made {
+        return only(counts::stopped(run, Stop::Store));
+    }
+    let depth = tally.depth;
+    let status = tally.status;
+    let top = top_of(depth);
+    let grown = Tally {
+        depth,
+        made: made + 1,
+        status,
+    };
+    Shift {
+        popped: 18446744073709551615,
+        resumed: 18446744073709551615,
+        value: cells::reference(made),
+        moved: top,
+        next: h.pc as u32 + 1,
+        made: made as usize,
+        class: class as u32,
+        wrote: top,
+        to: to as usize,
+        pass: no_pass(),
+        entered: 18446744073709551615,
+        method: 0,
+        run: counts::counted(run, grown),
+    }
+}
+
+// The registers of a method before its arguments.
+fn skipped(t: &[u64; 768], m: usize) -> usize
+    ensures value { λ r. ⌜ r ≡ skippedOf (programIn (now (t .entry))) m ⌝ }
+{
+    let all = program::registers(t, m);
+    let held = program::arguments(t, m);
+    if held < all { all - held } else { 0 }
+}
+
+// The arguments of method m stand in registers from `first` on.
+fn pass_to(t: &[u64; 768], h: At, m: usize, first: u8) -> Pass
+    ensures value { λ r. ⌜ r ≡ passTo (programIn (now (t .entry))) h m first ⌝ }
+{
+    let depth = h.run.tally.depth;
+    Pass {
+        from: first as usize,
+        to: skipped(t, m),
+        count: program::arguments(t, m),
+        top: top_of(depth),
+        above: depth as usize,
+    }
+}
+
+// A frame of a method is opened, unless 32 are.
+fn called(t: &[u64; 768], h: At, method: usize, first: u8) -> Shift
+    ensures value { λ r. ⌜ r ≡ calledBy (programIn (now (t .entry))) h method first ⌝ }
+{
+    let run = h.run;
+    let tally = run.tally;
+    let depth = tally.depth;
+    if 32 <= depth {
+        return only(counts::stopped(run, Stop::Stack));
+    }
+    let status = tally.status;
+    let grown = Tally {
+        depth: depth + 1,
+        made: tally.made,
+        status,
+    };
+    Shift {
+        popped: 18446744073709551615,
+        resumed: 18446744073709551615,
+        value: cells::zero_value(),
+        moved: 18446744073709551615,
+        next: 0,
+        made: 18446744073709551615,
+        class: 0,
+        wrote: 18446744073709551615,
+        to: 16,
+        pass: pass_to(t, h, method, first),
+        entered: depth as usize,
+        method: (method % 4294967296) as u32,
+        run: counts::counted(run, grown),
+    }
+}
+
+// The address after a call's, which lies below 32.
+fn following(a: u32) -> u32
+    ensures value { λ r. ⌜ r ≡ followingOf a ⌝ }
+{
+    if a < 32 { a + 1 } else { 0 }
+}
+
+// The top frame returns a value to the one below, which is at address `below`.
+fn exited(h: At, below: u32, value: machine::Value) -> Shift
+    ensures value { λ r. ⌜ r ≡ exitedBy h below value ⌝ }
+{
+    let run = h.run;
+    let depth = run.tally.depth;
+    let popped = top_of(depth);
+    let resumed = below_of(depth);
+    Shift {
+        popped,
+        resumed,
+        value: cells::cell_of(value),
+        moved: resumed,
+        next: following(below),
+        made: 18446744073709551615,
+        class: 0,
+        wrote: 18446744073709551615,
+        to: 16,
+        pass: no_pass(),
+        entered: 18446744073709551615,
+        method: 0,
+        run: counts::left_by(run, Status::Done, Status::Running),
+    }
+}
+
+// What an effect comes to; callers pass none that stays in its frame.
+pub fn shift_of(t: &[u64; 768], h: At, below: u32, e: Effect) -> Shift
+    ensures value { λ r. ⌜ r ≡ shifted (programIn (now (t .entry))) h below e ⌝ }
+{
+    let run = h.run;
+    match e {
+        Effect::Make { to, class } => made(h, to, class),
+        Effect::Call { method, first } => called(t, h, method, first),
+        Effect::Exit { value } => exited(h, below, value),
+        Effect::Raise { object } => only(counts::with_status(run, Status::Raised(object))),
+        Effect::Fail { fault } => only(counts::with_status(run, Status::Failed(fault))),
+        _ => only(run),
+    }
+}

@@ -1,0 +1,95 @@
+// What each kind of instruction comes to that does not stay in its frame, of a register, the class of its object, the place of
+// its frame and the address of the frame below.
+use super::At;
+use super::Shift;
+use super::effects;
+use cells::Value;
+use machine::Effect;
+ghost use mathlib.Core.Path.{_≡_};
+ghost use Rattle.machine.specs.declared.Effect.the-variants.{Make, Call, Exit};
+ghost use Rattle.machine.specs.Decide.{virtualCall, throw};
+ghost use Rattle.program.specs.Tables.{programIn};
+ghost use Rattle.cells.specs.Cells.{valueOf};
+ghost use Rattle.site.specs.Site.{aOf, bOf, cOf};
+ghost use Rattle.shift.specs.Shift.{returnedIn, shifted};
+
+// new-instance.
+pub fn make_shift(t: &[u64; 768], h: At, m: u32, a: u32, below: u32, x: Value, class: u32) -> Shift
+    ensures value { λ r. ⌜ r ≡ shifted (programIn (now (t .entry))) h below (Make (aOf (h .word)) (bOf (h .word))) ⌝ }
+{
+    let e = Effect::Make {
+        to: site::field_a(h.word),
+        class: site::field_b(h.word),
+    };
+    effects::shift_of(t, h, below, e)
+}
+
+// invoke-static.
+pub fn static_shift(
+    t: &[u64; 768],
+    h: At,
+    m: u32,
+    a: u32,
+    below: u32,
+    x: Value,
+    class: u32,
+) -> Shift
+    ensures value { λ r. ⌜ r ≡ shifted (programIn (now (t .entry))) h below (Call (aOf (h .word)) (cOf (h .word))) ⌝ }
+{
+    let e = Effect::Call {
+        method: site::field_a(h.word) as usize,
+        first: site::field_c(h.word),
+    };
+    effects::shift_of(t, h, below, e)
+}
+
+// invoke-virtual, of a receiver x and its class.
+pub fn virtual_shift(
+    t: &[u64; 768],
+    h: At,
+    m: u32,
+    a: u32,
+    below: u32,
+    x: Value,
+    class: u32,
+) -> Shift
+    ensures value { λ r. ⌜ r ≡ shifted (programIn (now (t .entry))) h below (virtualCall (programIn (now (t .entry))) class (aOf (h .word)) (bOf (h .word)) (cOf (h .word)) (valueOf x)) ⌝ }
+{
+    let e = decide::objects::virtual_call(
+        t,
+        class as usize,
+        site::field_a(h.word),
+        site::field_b(h.word),
+        site::field_c(h.word),
+        cells::value_of(x),
+    );
+    effects::shift_of(t, h, below, e)
+}
+
+// What a return gives: a register's value, or null.
+fn returned(opcode: u8, x: Value) -> machine::Value
+    ensures value { λ r. ⌜ r ≡ returnedIn opcode x ⌝ }
+{
+    if opcode == 16 {
+        return cells::value_of(x);
+    }
+    machine::Value::Number(0)
+}
+
+// return and return-void.
+pub fn leave_shift(t: &[u64; 768], h: At, m: u32, a: u32, below: u32, x: Value, class: u32) -> Shift
+    ensures value { λ r. ⌜ r ≡ shifted (programIn (now (t .entry))) h below (Exit (returnedIn (h .opcode) x)) ⌝ }
+{
+    let e = Effect::Exit {
+        value: returned(h.opcode, x),
+    };
+    effects::shift_of(t, h, below, e)
+}
+
+// throw, of a value x and its class.
+pub fn throw_shift(t: &[u64; 768], h: At, m: u32, a: u32, below: u32, x: Value, class: u32) -> Shift
+    ensures value { λ r. ⌜ r ≡ shifted (programIn (now (t .entry))) h below (throw (programIn (now (t .entry))) class (valueOf x)) ⌝ }
+{
+    let e = decide::objects::throw_value(t, class as usize, cells::value_of(x));
+    effects::shift_of(t, h, below, e)
+}

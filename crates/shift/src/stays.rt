@@ -1,0 +1,109 @@
+// Runs that stay in their frame: how they begin, go on and end.
+use super::At;
+use super::Run;
+use super::Stay;
+use super::one_less;
+use super::top_of;
+use site::Gone;
+use site::How;
+use site::Site;
+ghost use mathlib.Core.Path.{_≡_};
+ghost use Rattle.program.specs.Tables.{programIn};
+ghost use Rattle.shift.specs.Stay.{siteOf, goesOn, wentTo, beginAt, stayOf, againLeft, atOf};
+
+// Where the run stands.
+pub fn site_of(t: &[u64; 768], k: Stay) -> Site
+    ensures value { λ r. ⌜ r ≡ siteOf (programIn (now (t .entry))) k ⌝ }
+{
+    Site {
+        top: k.top,
+        pc: (k.pc % 256) as u8,
+        word: program::code_word(t, k.method as usize, k.pc as usize) as u64,
+    }
+}
+
+// Whether another instruction of the frame is to be done.
+pub fn goes(t: &[u64; 768], k: Stay) -> bool
+    ensures value { λ r. ⌜ r ≡ goesOn (programIn (now (t .entry))) k ⌝ }
+{
+    let how = k.how;
+    let How::Went = how else {
+        return false;
+    };
+    if k.left == 0 {
+        return false;
+    }
+    (k.pc as usize) < program::code_length(t, k.method as usize)
+}
+
+// One instruction further.
+pub fn went(k: Stay, g: Gone) -> Stay
+    ensures value { λ r. ⌜ r ≡ wentTo k g ⌝ }
+{
+    let how = g.how;
+    Stay {
+        left: one_less(k.left),
+        top: k.top,
+        method: k.method,
+        pc: g.next,
+        how,
+    }
+}
+
+// Where the top of so many frames begins, whose address is a; where there is none, at an address of no method.
+fn begin_at(depth: u8, a: u32) -> u32
+    ensures value { λ r. ⌜ r ≡ beginAt depth a ⌝ }
+{
+    if depth == 0 {
+        return 4294967295;
+    }
+    a
+}
+
+// A run whose top frame is at address a of method m.
+pub fn stay_of(run: Run, m: u32, a: u32) -> Stay
+    ensures value { λ r. ⌜ r ≡ stayOf run m a ⌝ }
+{
+    Stay {
+        left: run.left,
+        top: top_of(run.tally.depth),
+        method: m,
+        pc: begin_at(run.tally.depth, a),
+        how: How::Went,
+    }
+}
+
+// The steps that may still be made: an instruction that did not go to another address was no step.
+fn again_left(left: u64, how: How) -> u64
+    ensures value { λ r. ⌜ r ≡ againLeft left how ⌝ }
+{
+    if let How::Went = how {
+        return left;
+    }
+    if left < 18446744073709551615 {
+        return left + 1;
+    }
+    left
+}
+
+// Where a run has come to that stayed in its frame.
+pub fn at_of(t: &[u64; 768], run: Run, j: Stay) -> At
+    ensures value { λ r. ⌜ r ≡ atOf (programIn (now (t .entry))) run j ⌝ }
+{
+    let tally = run.tally;
+    let stop = run.stop;
+    let how = j.how;
+    let word = program::code_word(t, j.method as usize, j.pc as usize) as u64;
+    let run = Run {
+        left: again_left(j.left, how),
+        tally,
+        stop,
+    };
+    At {
+        run,
+        pc: (j.pc % 256) as u8,
+        opcode: site::opcode(word),
+        word,
+        how,
+    }
+}

@@ -1,0 +1,3 @@
+-- What the crates above use of the instructions that stay in their frame.
+pub mod Decided
+pub mod Chosen

@@ -1,0 +1,10 @@
+-- What the proofs of the functions use, and the steps by which a crate above calls them.
+pub mod Elem
+pub mod Slot
+pub mod Field
+pub mod Cell
+pub mod Call
+pub mod CallField
+pub mod CallCell
+pub mod Fill
+pub mod CallFill

@@ -1,0 +1,30 @@
+-- `store::put_cell` meets its contract: `proofs/Cell.antt`'s `put-meets`, at an Object's cells.
+-- Assumes nothing.
+use mathlib.Core.Path.{refl}
+use native.Mathlib.Omega.{arith}
+use denote.Triple.Spec.{tripleOf}
+use denote.Triple.Table.{entered}
+use denote.Struct.Laws as LL
+use contract.Running.{givenOf, tables, tablesOf}
+use Rattle.store.specs.Store.{absentObject, cellsOf, withCells, withCell}
+use Rattle.store.proofs.Cell.{put-meets}
+use Rattle.cells.proofs.Object as T
+use Rattle.cells.proofs.Object.Laws as T′
+use Rattle.cells.proofs.Value as E
+use Rattle.cells.proofs.Value.Laws as E′
+use Rattle.store.proofs.put_cell.Key.{name as #f}
+use Rattle.store.proofs.put_cell as f
+use Rattle.store.proofs.put_cell.Statement as stated
+use Rattle.store.proofs.put_cell.Code as code
+
+pub put-cell-spec : {M : Type 1} → stated.statement M
+unfolding code.routine tablesOf
+put-cell-spec 𝓤 H 𝓜 𝓖 𝓡 =
+    entered 𝓤 H (tripleOf 𝓤 H (𝓖 .A) f.signature (f.spec 𝓤 H (𝓖 .A) (𝓜 .mem) (𝓡 .run)))
+    (tables 𝓤 H 𝓜 𝓡 code.env .C) (tables 𝓤 H 𝓜 𝓡 code.env .Λ) #f code.function (code.unfolded 𝓤 H 𝓜 𝓡)
+    (put-meets T.the-type T′.the-laws T′.the-copy T′.the-plain E.the-type E′.the-laws E′.the-copy E′.the-plain 1 16 4 cellsOf withCells withCell absentObject
+    refl (λ d. refl) (λ d xs. refl) (λ d. refl) (λ d r v. refl)
+    (λ d g. LL.owed T.the-type T′.the-laws d _ g .1 .0)
+    (λ d xs g h. LL.owes T.the-type T′.the-laws (withCells d xs) (LL.owed T.the-type T′.the-laws d _ g .0, (h, LL.owed T.the-type T′.the-laws d _ g .1 .1)))
+    (λ r c. refl) tt tt tt (omega arith)
+    𝓤 H (𝓖 .A) (givenOf 𝓤 H 𝓜 𝓖) (λ _. tt) (λ _ _. refl) (tablesOf 𝓤 H 𝓜 (tables 𝓤 H 𝓜 𝓡 code.env)))

@@ -1,0 +1,300 @@
+// Steps that do not stay in their frame, done in the lent slices. The functions of one kind of step differ in what it comes to
+// alone: one proof serves them all.
+use cells::Frame;
+use cells::Object;
+use cells::Value;
+use shift::At;
+use shift::Pass;
+use shift::Run;
+ghost use mathlib.Core.Path.{_≡_};
+ghost use Rattle.drive.specs.Models.{done, lent};
+ghost use Rattle.turns.specs.Turns.{passOne, passDone, makeDone, staticDone, virtualDone, leaveDone, throwDone, unwindDone, fromThrow, fromExit, fromVirtual, applied, executed};
+
+// One argument is passed.
+fn pass_one(
+    t: &[u64; 768],
+    frames: &mut [Frame],
+    objects: &mut [Object],
+    statics: &mut [Value],
+    p: Pass,
+) -> Pass
+    ensures after { λ r. ⌜ done r (lent (now (frames .exit)) (now (objects .exit)) (now (statics .exit))) ≡ passOne (now (t .entry)) (lent (now (frames .entry)) (now (objects .entry)) (now (statics .entry))) p ⌝ }
+{
+    let none = cells::zero_value();
+    let x = store::register_at(frames, p.top, p.from, none);
+    store::put_register(frames, p.above, p.to, x);
+    shift::passed(p)
+}
+
+// All arguments are passed.
+fn pass(
+    t: &[u64; 768],
+    frames: &mut [Frame],
+    objects: &mut [Object],
+    statics: &mut [Value],
+    p: Pass,
+) -> Pass
+    ensures after { λ r. ⌜ done r (lent (now (frames .exit)) (now (objects .exit)) (now (statics .exit))) ≡ passDone (now (t .entry)) (lent (now (frames .entry)) (now (objects .entry)) (now (statics .entry))) p ⌝ }
+{
+    let mut j = p;
+    while shift::passes(t, j) {
+        j = pass_one(t, frames, objects, statics, j);
+    }
+    j
+}
+
+// new-instance.
+fn make(
+    t: &[u64; 768],
+    frames: &mut [Frame],
+    objects: &mut [Object],
+    statics: &mut [Value],
+    h: At,
+) -> Run
+    ensures after { λ r. ⌜ done r (lent (now (frames .exit)) (now (objects .exit)) (now (statics .exit))) ≡ makeDone (now (t .entry)) (lent (now (frames .entry)) (now (objects .entry)) (now (statics .entry))) h ⌝ }
+{
+    let w = shift::looked(h);
+    let m = store::method_at(frames, w.top, w.zero);
+    let a = store::address_at(frames, w.top, w.zero);
+    let b = store::address_at(frames, w.below, w.zero);
+    let x = store::register_at(frames, w.top, w.first, w.none);
+    let i = shift::thrown_at(h, x);
+    let c = store::class_at(objects, i, w.class);
+    let e = shift::make_shift(t, h, m, a, b, x, c);
+    let z = cells::zero_frame();
+    store::put_frame(frames, e.popped, z);
+    store::put_result(frames, e.resumed, e.value);
+    store::put_address(frames, e.moved, e.next);
+    store::put_class(objects, e.made, e.class);
+    store::put_register(frames, e.wrote, e.to, e.value);
+    let q = pass(t, frames, objects, statics, e.pass);
+    store::put_method(frames, e.entered, e.method);
+    e.run
+}
+
+// invoke-static.
+fn call_static(
+    t: &[u64; 768],
+    frames: &mut [Frame],
+    objects: &mut [Object],
+    statics: &mut [Value],
+    h: At,
+) -> Run
+    ensures after { λ r. ⌜ done r (lent (now (frames .exit)) (now (objects .exit)) (now (statics .exit))) ≡ staticDone (now (t .entry)) (lent (now (frames .entry)) (now (objects .entry)) (now (statics .entry))) h ⌝ }
+{
+    let w = shift::looked(h);
+    let m = store::method_at(frames, w.top, w.zero);
+    let a = store::address_at(frames, w.top, w.zero);
+    let b = store::address_at(frames, w.below, w.zero);
+    let x = store::register_at(frames, w.top, w.first, w.none);
+    let i = shift::thrown_at(h, x);
+    let c = store::class_at(objects, i, w.class);
+    let e = shift::static_shift(t, h, m, a, b, x, c);
+    let z = cells::zero_frame();
+    store::put_frame(frames, e.popped, z);
+    store::put_result(frames, e.resumed, e.value);
+    store::put_address(frames, e.moved, e.next);
+    store::put_class(objects, e.made, e.class);
+    store::put_register(frames, e.wrote, e.to, e.value);
+    let q = pass(t, frames, objects, statics, e.pass);
+    store::put_method(frames, e.entered, e.method);
+    e.run
+}
+
+// invoke-virtual.
+fn call_virtual(
+    t: &[u64; 768],
+    frames: &mut [Frame],
+    objects: &mut [Object],
+    statics: &mut [Value],
+    h: At,
+) -> Run
+    ensures after { λ r. ⌜ done r (lent (now (frames .exit)) (now (objects .exit)) (now (statics .exit))) ≡ virtualDone (now (t .entry)) (lent (now (frames .entry)) (now (objects .entry)) (now (statics .entry))) h ⌝ }
+{
+    let w = shift::looked(h);
+    let m = store::method_at(frames, w.top, w.zero);
+    let a = store::address_at(frames, w.top, w.zero);
+    let b = store::address_at(frames, w.below, w.zero);
+    let x = store::register_at(frames, w.top, w.first, w.none);
+    let i = shift::thrown_at(h, x);
+    let c = store::class_at(objects, i, w.class);
+    let e = shift::virtual_shift(t, h, m, a, b, x, c);
+    let z = cells::zero_frame();
+    store::put_frame(frames, e.popped, z);
+    store::put_result(frames, e.resumed, e.value);
+    store::put_address(frames, e.moved, e.next);
+    store::put_class(objects, e.made, e.class);
+    store::put_register(frames, e.wrote, e.to, e.value);
+    let q = pass(t, frames, objects, statics, e.pass);
+    store::put_method(frames, e.entered, e.method);
+    e.run
+}
+
+// return and return-void.
+fn leave(
+    t: &[u64; 768],
+    frames: &mut [Frame],
+    objects: &mut [Object],
+    statics: &mut [Value],
+    h: At,
+) -> Run
+    ensures after { λ r. ⌜ done r (lent (now (frames .exit)) (now (objects .exit)) (now (statics .exit))) ≡ leaveDone (now (t .entry)) (lent (now (frames .entry)) (now (objects .entry)) (now (statics .entry))) h ⌝ }
+{
+    let w = shift::looked(h);
+    let m = store::method_at(frames, w.top, w.zero);
+    let a = store::address_at(frames, w.top, w.zero);
+    let b = store::address_at(frames, w.below, w.zero);
+    let x = store::register_at(frames, w.top, w.first, w.none);
+    let i = shift::thrown_at(h, x);
+    let c = store::class_at(objects, i, w.class);
+    let e = shift::leave_shift(t, h, m, a, b, x, c);
+    let z = cells::zero_frame();
+    store::put_frame(frames, e.popped, z);
+    store::put_result(frames, e.resumed, e.value);
+    store::put_address(frames, e.moved, e.next);
+    store::put_class(objects, e.made, e.class);
+    store::put_register(frames, e.wrote, e.to, e.value);
+    let q = pass(t, frames, objects, statics, e.pass);
+    store::put_method(frames, e.entered, e.method);
+    e.run
+}
+
+// throw.
+fn raise(
+    t: &[u64; 768],
+    frames: &mut [Frame],
+    objects: &mut [Object],
+    statics: &mut [Value],
+    h: At,
+) -> Run
+    ensures after { λ r. ⌜ done r (lent (now (frames .exit)) (now (objects .exit)) (now (statics .exit))) ≡ throwDone (now (t .entry)) (lent (now (frames .entry)) (now (objects .entry)) (now (statics .entry))) h ⌝ }
+{
+    let w = shift::looked(h);
+    let m = store::method_at(frames, w.top, w.zero);
+    let a = store::address_at(frames, w.top, w.zero);
+    let b = store::address_at(frames, w.below, w.zero);
+    let x = store::register_at(frames, w.top, w.first, w.none);
+    let i = shift::thrown_at(h, x);
+    let c = store::class_at(objects, i, w.class);
+    let e = shift::throw_shift(t, h, m, a, b, x, c);
+    let z = cells::zero_frame();
+    store::put_frame(frames, e.popped, z);
+    store::put_result(frames, e.resumed, e.value);
+    store::put_address(frames, e.moved, e.next);
+    store::put_class(objects, e.made, e.class);
+    store::put_register(frames, e.wrote, e.to, e.value);
+    let q = pass(t, frames, objects, statics, e.pass);
+    store::put_method(frames, e.entered, e.method);
+    e.run
+}
+
+// A step with an object pending.
+pub fn unwind(
+    t: &[u64; 768],
+    frames: &mut [Frame],
+    objects: &mut [Object],
+    statics: &mut [Value],
+    h: At,
+) -> Run
+    ensures after { λ r. ⌜ done r (lent (now (frames .exit)) (now (objects .exit)) (now (statics .exit))) ≡ unwindDone (now (t .entry)) (lent (now (frames .entry)) (now (objects .entry)) (now (statics .entry))) h ⌝ }
+{
+    let w = shift::looked(h);
+    let m = store::method_at(frames, w.top, w.zero);
+    let a = store::address_at(frames, w.top, w.zero);
+    let b = store::address_at(frames, w.below, w.zero);
+    let x = store::register_at(frames, w.top, w.first, w.none);
+    let i = shift::thrown_at(h, x);
+    let c = store::class_at(objects, i, w.class);
+    let e = shift::unwind_shift(t, h, m, a, b, x, c);
+    let z = cells::zero_frame();
+    store::put_frame(frames, e.popped, z);
+    store::put_result(frames, e.resumed, e.value);
+    store::put_address(frames, e.moved, e.next);
+    store::put_class(objects, e.made, e.class);
+    store::put_register(frames, e.wrote, e.to, e.value);
+    let q = pass(t, frames, objects, statics, e.pass);
+    store::put_method(frames, e.entered, e.method);
+    e.run
+}
+
+// What a run has come to. Each function asks for one kind and leaves the others to the next.
+fn from_throw(
+    t: &[u64; 768],
+    frames: &mut [Frame],
+    objects: &mut [Object],
+    statics: &mut [Value],
+    h: At,
+) -> Run
+    ensures after { λ r. ⌜ done r (lent (now (frames .exit)) (now (objects .exit)) (now (statics .exit))) ≡ fromThrow (now (t .entry)) (lent (now (frames .entry)) (now (objects .entry)) (now (statics .entry))) h ⌝ }
+{
+    if shift::is_throw(h) {
+        raise(t, frames, objects, statics, h)
+    } else {
+        make(t, frames, objects, statics, h)
+    }
+}
+
+fn from_exit(
+    t: &[u64; 768],
+    frames: &mut [Frame],
+    objects: &mut [Object],
+    statics: &mut [Value],
+    h: At,
+) -> Run
+    ensures after { λ r. ⌜ done r (lent (now (frames .exit)) (now (objects .exit)) (now (statics .exit))) ≡ fromExit (now (t .entry)) (lent (now (frames .entry)) (now (objects .entry)) (now (statics .entry))) h ⌝ }
+{
+    if shift::exits(h) {
+        leave(t, frames, objects, statics, h)
+    } else {
+        from_throw(t, frames, objects, statics, h)
+    }
+}
+
+fn from_virtual(
+    t: &[u64; 768],
+    frames: &mut [Frame],
+    objects: &mut [Object],
+    statics: &mut [Value],
+    h: At,
+) -> Run
+    ensures after { λ r. ⌜ done r (lent (now (frames .exit)) (now (objects .exit)) (now (statics .exit))) ≡ fromVirtual (now (t .entry)) (lent (now (frames .entry)) (now (objects .entry)) (now (statics .entry))) h ⌝ }
+{
+    if shift::is_virtual(h) {
+        call_virtual(t, frames, objects, statics, h)
+    } else {
+        from_exit(t, frames, objects, statics, h)
+    }
+}
+
+fn apply(
+    t: &[u64; 768],
+    frames: &mut [Frame],
+    objects: &mut [Object],
+    statics: &mut [Value],
+    h: At,
+) -> Run
+    ensures after { λ r. ⌜ done r (lent (now (frames .exit)) (now (objects .exit)) (now (statics .exit))) ≡ applied (now (t .entry)) (lent (now (frames .entry)) (now (objects .entry)) (now (statics .entry))) h ⌝ }
+{
+    if shift::is_static(h) {
+        call_static(t, frames, objects, statics, h)
+    } else {
+        from_virtual(t, frames, objects, statics, h)
+    }
+}
+
+// A run that has come to an instruction that does not stay in its frame, or to none.
+pub fn execute(
+    t: &[u64; 768],
+    frames: &mut [Frame],
+    objects: &mut [Object],
+    statics: &mut [Value],
+    h: At,
+) -> Run
+    ensures after { λ r. ⌜ done r (lent (now (frames .exit)) (now (objects .exit)) (now (statics .exit))) ≡ executed (now (t .entry)) (lent (now (frames .entry)) (now (objects .entry)) (now (statics .entry))) h ⌝ }
+{
+    if shift::ready(h) {
+        apply(t, frames, objects, statics, h)
+    } else {
+        shift::others(h)
+    }
+}

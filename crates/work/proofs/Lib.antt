@@ -1,0 +1,3 @@
+-- What the proofs of an instruction in the slices use.
+pub mod Working
+pub mod Keeps
