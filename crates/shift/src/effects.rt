@@ -48,7 +48,7 @@ pub fn only(run: Run) -> Shift
 }
 
 // new-instance: an object is made, unless 256 are, and register `to` refers to it.
-fn made(h: At, to: u8, class: u8) -> Shift
+pub fn made(h: At, to: u8, class: u8) -> Shift
     ensures value { λ r. ⌜ r ≡ madeBy h to class ⌝ }
 {
     let run = h.run;
@@ -106,7 +106,7 @@ fn pass_to(t: &[u64; 768], h: At, m: usize, first: u8) -> Pass
 }
 
 // A frame of a method is opened, unless 32 are.
-fn called(t: &[u64; 768], h: At, method: usize, first: u8) -> Shift
+pub fn called(t: &[u64; 768], h: At, method: usize, first: u8) -> Shift
     ensures value { λ r. ⌜ r ≡ calledBy (programIn (now (t .entry))) h method first ⌝ }
 {
     let run = h.run;
@@ -146,7 +146,7 @@ fn following(a: u32) -> u32
 }
 
 // The top frame returns a value to the one below, which is at address `below`.
-fn exited(h: At, below: u32, value: machine::Value) -> Shift
+pub fn exited(h: At, below: u32, value: machine::Value) -> Shift
     ensures value { λ r. ⌜ r ≡ exitedBy h below value ⌝ }
 {
     let run = h.run;
@@ -167,20 +167,5 @@ fn exited(h: At, below: u32, value: machine::Value) -> Shift
         entered: 18446744073709551615,
         method: 0,
         run: counts::left_by(run, Status::Done, Status::Running),
-    }
-}
-
-// What an effect comes to; callers pass none that stays in its frame.
-pub fn shift_of(t: &[u64; 768], h: At, below: u32, e: Effect) -> Shift
-    ensures value { λ r. ⌜ r ≡ shifted (programIn (now (t .entry))) h below e ⌝ }
-{
-    let run = h.run;
-    match e {
-        Effect::Make { to, class } => made(h, to, class),
-        Effect::Call { method, first } => called(t, h, method, first),
-        Effect::Exit { value } => exited(h, below, value),
-        Effect::Raise { object } => only(counts::with_status(run, Status::Raised(object))),
-        Effect::Fail { fault } => only(counts::with_status(run, Status::Failed(fault))),
-        _ => only(run),
     }
 }

@@ -2,9 +2,11 @@
 // its frame and the address of the frame below.
 use super::At;
 use super::Shift;
+use super::counts;
 use super::effects;
 use cells::Value;
 use machine::Effect;
+use turn::Status;
 ghost use mathlib.Core.Path.{_≡_};
 ghost use Rattle.machine.specs.declared.Effect.the-variants.{Make, Call, Exit};
 ghost use Rattle.machine.specs.Decide.{virtualCall, throw};
@@ -17,11 +19,7 @@ ghost use Rattle.shift.specs.Shift.{returnedIn, shifted};
 pub fn make_shift(t: &[u64; 768], h: At, m: u32, a: u32, below: u32, x: Value, class: u32) -> Shift
     ensures value { λ r. ⌜ r ≡ shifted (programIn (now (t .entry))) h below (Make (aOf (h .word)) (bOf (h .word))) ⌝ }
 {
-    let e = Effect::Make {
-        to: site::field_a(h.word),
-        class: site::field_b(h.word),
-    };
-    effects::shift_of(t, h, below, e)
+    effects::made(h, site::field_a(h.word), site::field_b(h.word))
 }
 
 // invoke-static.
@@ -36,11 +34,7 @@ pub fn static_shift(
 ) -> Shift
     ensures value { λ r. ⌜ r ≡ shifted (programIn (now (t .entry))) h below (Call (aOf (h .word)) (cOf (h .word))) ⌝ }
 {
-    let e = Effect::Call {
-        method: site::field_a(h.word) as usize,
-        first: site::field_c(h.word),
-    };
-    effects::shift_of(t, h, below, e)
+    effects::called(t, h, site::field_a(h.word) as usize, site::field_c(h.word))
 }
 
 // invoke-virtual, of a receiver x and its class.
@@ -63,7 +57,12 @@ pub fn virtual_shift(
         site::field_c(h.word),
         cells::value_of(x),
     );
-    effects::shift_of(t, h, below, e)
+    let run = h.run;
+    match e {
+        Effect::Call { method, first } => effects::called(t, h, method, first),
+        Effect::Fail { fault } => effects::only(counts::with_status(run, Status::Failed(fault))),
+        _ => effects::only(run),
+    }
 }
 
 // What a return gives: a register's value, or null.
@@ -80,10 +79,7 @@ fn returned(opcode: u8, x: Value) -> machine::Value
 pub fn leave_shift(t: &[u64; 768], h: At, m: u32, a: u32, below: u32, x: Value, class: u32) -> Shift
     ensures value { λ r. ⌜ r ≡ shifted (programIn (now (t .entry))) h below (Exit (returnedIn (h .opcode) x)) ⌝ }
 {
-    let e = Effect::Exit {
-        value: returned(h.opcode, x),
-    };
-    effects::shift_of(t, h, below, e)
+    effects::exited(h, below, returned(h.opcode, x))
 }
 
 // throw, of a value x and its class.
@@ -91,5 +87,10 @@ pub fn throw_shift(t: &[u64; 768], h: At, m: u32, a: u32, below: u32, x: Value, 
     ensures value { λ r. ⌜ r ≡ shifted (programIn (now (t .entry))) h below (throw (programIn (now (t .entry))) class (valueOf x)) ⌝ }
 {
     let e = decide::objects::throw_value(t, class as usize, cells::value_of(x));
-    effects::shift_of(t, h, below, e)
+    let run = h.run;
+    match e {
+        Effect::Raise { object } => effects::only(counts::with_status(run, Status::Raised(object))),
+        Effect::Fail { fault } => effects::only(counts::with_status(run, Status::Failed(fault))),
+        _ => effects::only(run),
+    }
 }

@@ -8,11 +8,11 @@ field-a-requires c κs = tt
 field-b-requires : tie.Need-field-b-requires
 field-b-requires c κs = tt
 
-shift-of-requires : tie.Need-shift-of-requires
-shift-of-requires c κs = tt
+made-requires : tie.Need-made-requires
+made-requires c κs = tt
 
 returns : tie.Need-returns
-returns c = rw (c .shift-of .ensures, c .before .field-b .ensures, c .before .before .field-a .ensures)
+returns c = rw (c .made .ensures, c .before .field-b .ensures, c .before .before .field-a .ensures)
 
 pub make-shift-spec : {M : Type 1} → statement M
-make-shift-spec = tie.close (tie.spec field-a-requires field-b-requires shift-of-requires returns)
+make-shift-spec = tie.close (tie.spec field-a-requires field-b-requires made-requires returns)
