@@ -1,8 +1,13 @@
-// What programs in other languages link: functions on numbers and slices of numbers. docs/FORMATS.md says what each word means.
+// What programs in other languages link: functions on numbers, and on slices of numbers and of structs laid out as in C.
+// docs/FORMATS.md says what each word means.
+use cells::Frame;
+use cells::Object;
+use cells::Value;
 ghost use mathlib.Core.Path.{_≡_};
 ghost use lib.ListN.{length};
 ghost use Rattle.reader.specs.Read.{readProgram, readingNumber};
-ghost use Rattle.bounded.specs.Step.{stepping, steppingNumber, steppingValues, framesAfter, objectsAfter, staticsAfter};
+ghost use Rattle.bounded.specs.Step.{steppingNumber, steppingValues};
+ghost use Rattle.bounded.specs.Lent.{lending, framesLeft, objectsLeft, staticsLeft};
 ghost use Rattle.answer.specs.Words.{answered, verdictAnswered};
 ghost use Rattle.checker.specs.Check.{checking, checkingNumber, checkingValues, memoryAfter};
 
@@ -22,16 +27,16 @@ pub extern "C" fn hudzmoke_read(text: &[u8]) -> u64
 pub extern "C" fn hudzmoke_step(
     text: &[u8],
     n: u64,
-    frames: &mut [u64],
-    objects: &mut [u64],
-    statics: &mut [u64],
+    frames: &mut [Frame],
+    objects: &mut [Object],
+    statics: &mut [Value],
     answer: &mut [u64],
 ) -> u64
-    ensures number { λ r. ⌜ r ≡ steppingNumber (stepping (now (text .entry)) n (now (frames .entry)) (now (objects .entry)) (now (statics .entry))) ⌝ }
-    ensures answer { λ r. ⌜ now (answer .exit) ≡ answered (steppingNumber (stepping (now (text .entry)) n (now (frames .entry)) (now (objects .entry)) (now (statics .entry)))) (steppingValues (stepping (now (text .entry)) n (now (frames .entry)) (now (objects .entry)) (now (statics .entry)))) (now (answer .entry)) ⌝ }
-    ensures memory { λ r. ⌜ (now (frames .exit) ≡ framesAfter (stepping (now (text .entry)) n (now (frames .entry)) (now (objects .entry)) (now (statics .entry))) (now (frames .entry))) × (now (objects .exit) ≡ objectsAfter (stepping (now (text .entry)) n (now (frames .entry)) (now (objects .entry)) (now (statics .entry))) (now (objects .entry))) × (now (statics .exit) ≡ staticsAfter (stepping (now (text .entry)) n (now (frames .entry)) (now (objects .entry)) (now (statics .entry))) (now (statics .entry))) ⌝ }
+    ensures number { λ r. ⌜ r ≡ steppingNumber (lending (now (text .entry)) n (now (frames .entry)) (now (objects .entry)) (now (statics .entry))) ⌝ }
+    ensures answer { λ r. ⌜ now (answer .exit) ≡ answered (steppingNumber (lending (now (text .entry)) n (now (frames .entry)) (now (objects .entry)) (now (statics .entry)))) (steppingValues (lending (now (text .entry)) n (now (frames .entry)) (now (objects .entry)) (now (statics .entry)))) (now (answer .entry)) ⌝ }
+    ensures memory { λ r. ⌜ (now (frames .exit) ≡ framesLeft (lending (now (text .entry)) n (now (frames .entry)) (now (objects .entry)) (now (statics .entry))) (now (frames .entry))) × (now (objects .exit) ≡ objectsLeft (lending (now (text .entry)) n (now (frames .entry)) (now (objects .entry)) (now (statics .entry))) (now (objects .entry))) × (now (statics .exit) ≡ staticsLeft (lending (now (text .entry)) n (now (frames .entry)) (now (objects .entry)) (now (statics .entry))) (now (statics .entry))) ⌝ }
 {
-    let outcome = plain::step(text, n, frames, objects, statics);
+    let outcome = stepper::step(text, n, frames, objects, statics);
     answer::put_outcome(answer, outcome)
 }
 

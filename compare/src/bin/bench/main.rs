@@ -61,8 +61,8 @@ fn rust_steps(text: &[u8], [mut frames, mut objects, mut statics]: [Vec<u64>; 3]
     Left { answer, memory: [frames, objects, statics] }
 }
 
-fn proved_steps(text: &[u8], mut memory: [Vec<u64>; 3]) -> Left {
-    let answer = proved::step(text, MAX_STEPS, &mut memory);
+fn proved_steps(text: &[u8]) -> Left {
+    let (answer, memory) = proved::step(text, MAX_STEPS);
     Left { answer, memory }
 }
 
@@ -78,10 +78,10 @@ fn assert_same(name: &str, proved: &Left, rust: &Left) {
 fn run(name: &str, text: &[u8]) {
     let expected = rust_steps(text, fresh());
     assert_eq!(expected.answer[..2], [22, MAX_STEPS], "{name} is to go on");
-    assert_same(name, &proved_steps(text, fresh()), &expected);
+    assert_same(name, &proved_steps(text), &expected);
     let [proved, rust] = interleaved(
         ROUNDS,
-        || black_box(proved_steps(black_box(text), fresh())) == expected,
+        || black_box(proved_steps(black_box(text))) == expected,
         || black_box(rust_steps(black_box(text), fresh())) == expected,
     );
     let a_step = |seconds: f64| seconds * 1e9 / MAX_STEPS as f64;
