@@ -1,4 +1,4 @@
+-- Laws of words and places, and examples.
 pub mod Examples
 pub mod Places
 pub mod Values
-pub mod Words

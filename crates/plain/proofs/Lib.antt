@@ -1,3 +1,6 @@
--- What the proofs of the stepper's functions use.
-pub mod Begun
+-- What the proofs of the functions use.
+pub mod Local
+pub mod Puts
+pub mod Elements
+pub mod States
 pub mod Answers

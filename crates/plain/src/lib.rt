@@ -1,38 +1,112 @@
-// The stepper over plain words: runs a program text for at most n steps, in words that the caller lends.
+// The stepper over plain words: runs a program text for at most n steps, in words that the caller lends. It runs in frames, objects
+// and statics of its own, and then writes them as words.
 use bounded::Outcome;
+use cells::Frame;
+use cells::Object;
+use cells::Value;
 ghost use mathlib.Core.Path.{_≡_};
-ghost use Prim.Native.Nat.{min, _≤_};
-ghost use lib.ListN.{length};
-ghost use Rattle.program.specs.Tables.{programIn};
-ghost use Rattle.reader.specs.Formed.{Formed};
+ghost use mathlib.Core.Bool.{true, false};
+ghost use lib.ListN.{length, replicate};
 ghost use Rattle.reader.specs.Read.{readProgram, tablesAfter};
-ghost use Rattle.turn.specs.Lies.{lent};
-ghost use Rattle.bounded.specs.Bounded.{bounded};
-ghost use Rattle.bounded.specs.Step.{stepping, steppingNumber, steppingValues, framesAfter, objectsAfter, staticsAfter, enough, numberOf, valuesOf};
-ghost use Rattle.runner.specs.Inside.{Finished};
+ghost use Rattle.bounded.specs.Step.{stepping, steppingNumber, steppingValues, framesAfter, objectsAfter, staticsAfter, enough, steppingBy, numberOf, valuesOf};
+ghost use Rattle.bounded.specs.Lent.{lending, framesLeft, objectsLeft, staticsLeft};
+ghost use Rattle.plain.specs.Words.{put, wordIn, frameWordIn, objectWordIn, framesWord, objectsWord, hasRun};
 
-// "n from 0 to 1,000,000 (more counts as that)"
-fn capped(n: u64) -> u64
-    ensures value { λ r. ⌜ r ≡ min n 1000000 ⌝ }
-{
-    if n < 1000000 { n } else { 1000000 }
+// What a run answers and leaves.
+struct Left {
+    outcome: Outcome,
+    frames: [Frame; 32],
+    objects: [Object; 256],
+    statics: [Value; 16],
 }
 
-// Puts the start into memory and runs.
-fn begin(
-    t: &[u64; 768],
-    n: u64,
-    frames: &mut [u64],
-    objects: &mut [u64],
-    statics: &mut [u64],
-) -> Outcome
-    requires { ⌜ (608 ≤ length (now frames)) × (4352 ≤ length (now objects)) × (16 ≤ length (now statics)) ⌝ }
-    ensures outcome { λ r. ⌜ (Formed (programIn (now (t .entry))) → Finished (bounded (programIn (now (t .entry))) n) (lent (now (frames .entry)) (now (objects .entry)) (now (statics .entry))) r (lent (now (frames .exit)) (now (objects .exit)) (now (statics .exit)))) ⌝ }
+// Writes values as words, from a place on.
+fn put_values(ws: &mut [u64], at: u32, cs: [Value; 16])
+    ensures memory { λ _. ⌜ now (ws .exit) ≡ put 16 (wordIn cs) (now (ws .entry)) at ⌝ }
 {
-    memory::clear(&mut *frames, 0, 608);
-    memory::clear(&mut *objects, 0, 4352);
-    memory::clear(&mut *statics, 0, 16);
-    runner::run(t, capped(n), frames, objects, statics)
+    let mut j: usize = 0;
+    while j < 16 {
+        let c = cs[j];
+        memory::put_value(&mut *ws, at as usize + j, cells::value_of(c));
+        j += 1;
+    }
+}
+
+// Writes a frame as words, from a place on: method, address, result, 16 registers.
+fn put_frame(ws: &mut [u64], at: u16, f: Frame)
+    ensures memory { λ _. ⌜ now (ws .exit) ≡ put 19 (frameWordIn f) (now (ws .entry)) at ⌝ }
+{
+    let i = at as usize;
+    memory::put_word(&mut *ws, i, f.method as u64);
+    memory::put_word(&mut *ws, i + 1, f.address as u64);
+    let v = f.result;
+    memory::put_value(&mut *ws, i + 2, cells::value_of(v));
+    let cs = f.registers;
+    put_values(ws, at as u32 + 3, cs);
+}
+
+// Writes an object as words, from a place on: class, 16 cells.
+fn put_object(ws: &mut [u64], at: u16, o: Object)
+    ensures memory { λ _. ⌜ now (ws .exit) ≡ put 17 (objectWordIn o) (now (ws .entry)) at ⌝ }
+{
+    memory::put_word(&mut *ws, at as usize, o.class as u64);
+    let cs = o.cells;
+    put_values(ws, at as u32 + 1, cs);
+}
+
+fn put_frames(ws: &mut [u64], fs: [Frame; 32])
+    ensures memory { λ _. ⌜ now (ws .exit) ≡ put 608 (framesWord fs) (now (ws .entry)) 0 ⌝ }
+{
+    let mut i: u16 = 0;
+    while i < 32 {
+        let k = i as usize;
+        let f = fs[k];
+        put_frame(&mut *ws, 19 * i, f);
+        i += 1;
+    }
+}
+
+fn put_objects(ws: &mut [u64], os: [Object; 256])
+    ensures memory { λ _. ⌜ now (ws .exit) ≡ put 4352 (objectsWord os) (now (ws .entry)) 0 ⌝ }
+{
+    let mut i: u16 = 0;
+    while i < 256 {
+        let k = i as usize;
+        let o = os[k];
+        put_object(&mut *ws, 17 * i, o);
+        i += 1;
+    }
+}
+
+// Writes all that a run left as words.
+fn put_left(left: Left, frames: &mut [u64], objects: &mut [u64], statics: &mut [u64])
+    ensures frames { λ _. ⌜ now (frames .exit) ≡ put 608 (framesWord (left .frames)) (now (frames .entry)) 0 ⌝ }
+    ensures objects { λ _. ⌜ now (objects .exit) ≡ put 4352 (objectsWord (left .objects)) (now (objects .entry)) 0 ⌝ }
+    ensures statics { λ _. ⌜ now (statics .exit) ≡ put 16 (wordIn (left .statics)) (now (statics .entry)) 0 ⌝ }
+{
+    let fs = left.frames;
+    put_frames(frames, fs);
+    let os = left.objects;
+    put_objects(objects, os);
+    let ss = left.statics;
+    put_values(statics, 0, ss);
+}
+
+// The stepper, in frames, objects and statics of its own, each of which begins as given.
+fn run(text: &[u8], n: u64, f: Frame, o: Object, v: Value) -> Left
+    ensures answer { λ r. ⌜ (numberOf (r .outcome) ≡ steppingNumber (lending (now (text .entry)) n (replicate 32 f) (replicate 256 o) (replicate 16 v))) × (valuesOf (r .outcome) ≡ steppingValues (lending (now (text .entry)) n (replicate 32 f) (replicate 256 o) (replicate 16 v))) ⌝ }
+    ensures memory { λ r. ⌜ (r .frames ≡ framesLeft (lending (now (text .entry)) n (replicate 32 f) (replicate 256 o) (replicate 16 v)) (replicate 32 f)) × (r .objects ≡ objectsLeft (lending (now (text .entry)) n (replicate 32 f) (replicate 256 o) (replicate 16 v)) (replicate 256 o)) × (r .statics ≡ staticsLeft (lending (now (text .entry)) n (replicate 32 f) (replicate 256 o) (replicate 16 v)) (replicate 16 v)) ⌝ }
+{
+    let mut frames = [f; 32];
+    let mut objects = [o; 256];
+    let mut statics = [v; 16];
+    let outcome = stepper::step(text, n, &mut frames, &mut objects, &mut statics);
+    Left {
+        outcome,
+        frames,
+        objects,
+        statics,
+    }
 }
 
 // Whether so many words are enough for 32 frames, 256 objects and 16 statics.
@@ -48,29 +122,53 @@ fn suffices(frames: usize, objects: usize, statics: usize) -> bool
     16 <= statics
 }
 
-// The same as `step`, in tables for the program that the caller lends: read, they hold the program.
-pub fn step_in(
+// Whether a program ran.
+fn did_run(o: Outcome) -> bool
+    ensures value { λ r. ⌜ r ≡ hasRun o ⌝ }
+{
+    match o {
+        Outcome::Ran { .. } => true,
+        Outcome::Refused { .. } => false,
+        Outcome::Short => false,
+    }
+}
+
+// Runs a text, and writes what is left where a program ran.
+fn begin(
     text: &[u8],
     n: u64,
-    t: &mut [u64; 768],
     frames: &mut [u64],
     objects: &mut [u64],
     statics: &mut [u64],
 ) -> Outcome
+    requires { ⌜ enough (length (now frames)) (length (now objects)) (length (now statics)) ≡ true ⌝ }
     ensures answer { λ r. ⌜ (numberOf r ≡ steppingNumber (stepping (now (text .entry)) n (now (frames .entry)) (now (objects .entry)) (now (statics .entry)))) × (valuesOf r ≡ steppingValues (stepping (now (text .entry)) n (now (frames .entry)) (now (objects .entry)) (now (statics .entry)))) ⌝ }
     ensures memory { λ r. ⌜ (now (frames .exit) ≡ framesAfter (stepping (now (text .entry)) n (now (frames .entry)) (now (objects .entry)) (now (statics .entry))) (now (frames .entry))) × (now (objects .exit) ≡ objectsAfter (stepping (now (text .entry)) n (now (frames .entry)) (now (objects .entry)) (now (statics .entry))) (now (objects .entry))) × (now (statics .exit) ≡ staticsAfter (stepping (now (text .entry)) n (now (frames .entry)) (now (objects .entry)) (now (statics .entry))) (now (statics .entry))) ⌝ }
-    ensures tables { λ r. ⌜ now (t .exit) ≡ tablesAfter (readProgram (now (text .entry))) (now (t .entry)) ⌝ }
 {
-    let read = reader::read(text, &mut *t);
+    let f = cells::zero_frame();
+    let o = cells::zero_object();
+    let v = cells::zero_value();
+    let left = run(text, n, f, o, v);
+    let outcome = left.outcome;
+    if did_run(outcome) {
+        put_left(left, frames, objects, statics);
+        return outcome;
+    }
+    outcome
+}
+
+// What becomes of a text where too little memory is lent.
+fn refusal(text: &[u8]) -> Outcome
+    ensures answer { λ r. ⌜ (numberOf r ≡ steppingNumber (steppingBy (readProgram (now (text .entry))) 0 false)) × (valuesOf r ≡ steppingValues (steppingBy (readProgram (now (text .entry))) 0 false)) ⌝ }
+{
+    let mut t = [0u64; 768];
+    let read = reader::read(text, &mut t);
     let number = reader::number_of(read);
     if number != 0 {
         return Outcome::Refused {
             number,
             line: reader::line_of(read),
         };
-    }
-    if suffices(frames.len(), objects.len(), statics.len()) {
-        return begin(t, n, frames, objects, statics);
     }
     Outcome::Short
 }
@@ -86,6 +184,25 @@ pub fn step(
     ensures answer { λ r. ⌜ (numberOf r ≡ steppingNumber (stepping (now (text .entry)) n (now (frames .entry)) (now (objects .entry)) (now (statics .entry)))) × (valuesOf r ≡ steppingValues (stepping (now (text .entry)) n (now (frames .entry)) (now (objects .entry)) (now (statics .entry)))) ⌝ }
     ensures memory { λ r. ⌜ (now (frames .exit) ≡ framesAfter (stepping (now (text .entry)) n (now (frames .entry)) (now (objects .entry)) (now (statics .entry))) (now (frames .entry))) × (now (objects .exit) ≡ objectsAfter (stepping (now (text .entry)) n (now (frames .entry)) (now (objects .entry)) (now (statics .entry))) (now (objects .entry))) × (now (statics .exit) ≡ staticsAfter (stepping (now (text .entry)) n (now (frames .entry)) (now (objects .entry)) (now (statics .entry))) (now (statics .entry))) ⌝ }
 {
-    let mut t = [0u64; 768];
-    step_in(text, n, &mut t, frames, objects, statics)
+    if suffices(frames.len(), objects.len(), statics.len()) {
+        return begin(text, n, frames, objects, statics);
+    }
+    refusal(text)
+}
+
+// The same as `step`, in tables for the program that the caller lends: read, they hold the program.
+pub fn step_in(
+    text: &[u8],
+    n: u64,
+    t: &mut [u64; 768],
+    frames: &mut [u64],
+    objects: &mut [u64],
+    statics: &mut [u64],
+) -> Outcome
+    ensures answer { λ r. ⌜ (numberOf r ≡ steppingNumber (stepping (now (text .entry)) n (now (frames .entry)) (now (objects .entry)) (now (statics .entry)))) × (valuesOf r ≡ steppingValues (stepping (now (text .entry)) n (now (frames .entry)) (now (objects .entry)) (now (statics .entry)))) ⌝ }
+    ensures memory { λ r. ⌜ (now (frames .exit) ≡ framesAfter (stepping (now (text .entry)) n (now (frames .entry)) (now (objects .entry)) (now (statics .entry))) (now (frames .entry))) × (now (objects .exit) ≡ objectsAfter (stepping (now (text .entry)) n (now (frames .entry)) (now (objects .entry)) (now (statics .entry))) (now (objects .entry))) × (now (statics .exit) ≡ staticsAfter (stepping (now (text .entry)) n (now (frames .entry)) (now (objects .entry)) (now (statics .entry))) (now (statics .entry))) ⌝ }
+    ensures tables { λ r. ⌜ now (t .exit) ≡ tablesAfter (readProgram (now (text .entry))) (now (t .entry)) ⌝ }
+{
+    reader::read(text, t);
+    step(text, n, frames, objects, statics)
 }

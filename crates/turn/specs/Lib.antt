@@ -1,5 +1,1 @@
 pub mod Stop
-pub mod Slots
-pub mod Lies
-pub mod Applied
-pub mod Acts

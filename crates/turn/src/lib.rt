@@ -1,6 +1,5 @@
-// What a step of the stepper comes to. When it can be made, and when a state lies in lent memory, are definitions (specs/).
+// How far a run has come, and why the stepper stops. When it does is a definition (specs/).
 use machine::Fault;
-use machine::Value;
 
 // Why the stepper stops: an end of the run, a full store or stack, n steps made, or an address outside its method.
 pub enum Halt {
@@ -27,27 +26,4 @@ pub struct Tally {
     pub depth: u8,
     pub made: u32,
     pub status: Status,
-}
-
-// What a step comes to: it is made, or it cannot be.
-pub enum Turn {
-    Went(Tally),
-    Stopped(Halt),
-}
-
-// Where the top frame is: frame `top`, at an address of its method, or outside.
-pub enum Whereabouts {
-    Inside { top: u8, method: usize, address: u8 },
-    Outside,
-}
-
-// What an instruction comes to, once what it does inside its frame is done: the frame goes to an address, or what is still to
-// be done.
-pub enum Act {
-    Go(usize),
-    Make { to: u8, class: u8 },
-    Call { method: usize, first: u8 },
-    Exit(Value),
-    Raise(u32),
-    Fail(Fault),
 }

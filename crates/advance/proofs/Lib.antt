@@ -1,2 +1,0 @@
--- What the proofs of a step that leaves its frame use.
-pub mod Turned

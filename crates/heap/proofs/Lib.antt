@@ -1,2 +1,0 @@
--- What the proofs of instructions on objects and statics use.
-pub mod Objects
