@@ -1,11 +1,23 @@
--- What `step` makes of the slices that are lent to it, by computation: how many are enough, and what is left of two. Assumes nothing.
-use mathlib.Core.Path.{_≡_, refl}
+-- What `step` makes of the slices that are lent to it, by computation: how many are enough, what a refusal leaves, and the sample in
+-- two steps. Assumes nothing.
+use mathlib.Core.Path.{_≡_, refl, ap}
 use mathlib.Core.Bool.{true, false}
-use mathlib.Core.List.{List}
+use mathlib.Core.List.{List, [], _∷_}
 use Prim.Native.Nat.{ℕ}
+use lib.IntN.{pos}
+use lib.ListN.{getD, replicate}
+use Rattle.instruction.specs.Word.{instructionOf, fieldsOf}
+use Rattle.reader.proofs.Texts.{bytesOf}
+use Rattle.reader.proofs.Examples.{sample, sampleProgram, sample-reads}
+use Rattle.machine.specs.Run.{step}
+use Rattle.turn.specs.Stop.{stopOf}
+use Rattle.cells.specs.declared.Value.{Value}
 use Rattle.cells.specs.declared.Frame.{Frame}
-use Rattle.bounded.specs.Step.{turnedDown, short}
-use Rattle.bounded.specs.Lent.{enough, framesLeft}
+use Rattle.cells.specs.declared.Object.{Object}
+use Rattle.cells.specs.Cells.{zeroValue, zeroFrame, framesOf, staticsOf}
+use Rattle.bounded.specs.Bounded.{steps, bounded}
+use Rattle.bounded.specs.Step.{Stepping, turnedDown, short, ran, steppingNumber, steppingValues}
+use Rattle.bounded.specs.Lent.{enough, lending, framesLeft, staticsLeft}
 
 -- "23: fewer than 32 frames, 256 objects of 16 cells or 16 statics lent to the stepper"
 just-enough : enough 32 256 16 ≡ true
@@ -26,3 +38,41 @@ untouched before = refl
 
 untouched-refused : (number line : ℕ) (before : List Frame) → framesLeft (turnedDown number line) before ≡ before
 untouched-refused number line before = refl
+
+-- ---- the sample in two steps, in slices of other values, one frame and one static more than asked
+abbrev other : Value
+other = record { object = 7; number = pos 7 }
+
+abbrev frames : List Frame
+frames = replicate 33 (record { method = 7; address = 7; registers = replicate 16 other; result = other })
+
+abbrev objects : List Object
+objects = replicate 256 (record { class = 7; cells = replicate 16 other })
+
+abbrev two : Stepping
+two = lending (bytesOf sample) 2 frames objects (replicate 17 other)
+
+ran-two : two ≡ ran (bounded sampleProgram 2)
+unfolding lending
+ran-two = rw sample-reads refl
+
+two-number : steppingNumber two ≡ 22
+unfolding bounded steps stopOf step instructionOf fieldsOf
+two-number = ap steppingNumber ran-two
+
+two-values : steppingValues two ≡ 2 ∷ 1 ∷ 0 ∷ []
+unfolding bounded steps stopOf step instructionOf fieldsOf
+two-values = ap steppingValues ran-two
+
+-- frame 0 is of method 0 at address 1
+two-frame : getD (framesLeft two frames) 0 zeroFrame ≡ record { method = 0; address = 1; registers = replicate 16 zeroValue; result = zeroValue }
+unfolding bounded steps stopOf step instructionOf fieldsOf framesOf
+two-frame = ap (λ x. getD (framesLeft x frames) 0 zeroFrame) ran-two
+
+beyond-frames : getD (framesLeft two frames) 32 zeroFrame .method ≡ 7
+unfolding bounded steps stopOf step instructionOf fieldsOf framesOf
+beyond-frames = ap (λ x. getD (framesLeft x frames) 32 zeroFrame .method) ran-two
+
+beyond-statics : getD (staticsLeft two (replicate 17 other)) 16 zeroValue ≡ other
+unfolding bounded steps stopOf step instructionOf fieldsOf staticsOf
+beyond-statics = ap (λ x. getD (staticsLeft x (replicate 17 other)) 16 zeroValue) ran-two

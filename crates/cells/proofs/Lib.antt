@@ -1,2 +1,3 @@
--- Laws of values in lent slices.
+-- Laws of values in lent slices, and examples.
+pub mod Examples
 pub mod Values
