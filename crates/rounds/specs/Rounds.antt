@@ -1,17 +1,15 @@
 -- The stepper's run in the lent slices. Nothing here needs to be believed to read a promise of the stepper. Definitions only.
 use mathlib.Core.Bool.{Bool}
-use mathlib.Core.List.{List, map}
+use mathlib.Core.List.{List}
 use Prim.Native.Nat.{ℕ, suc}
-use lib.ListN.{getD}
 use Rattle.instruction.specs.Word.{pick}
 use Rattle.program.specs.Tables.{programIn}
-use Rattle.store.specs.Store.{methodOf, addressOf}
 use Rattle.shift.specs.declared.Run.{Run}
 use Rattle.shift.specs.declared.Stay.{Stay}
-use Rattle.shift.specs.Places.{lookOf}
 use Rattle.shift.specs.Stay.{stayOf, siteOf, goesOn, wentTo, atOf, raisedAt, isRunning, runsOn}
 use Rattle.drive.specs.Models.{Lent, Done, done, looped}
 use Rattle.work.specs.Work.{performed}
+use Rattle.turns.specs.Turns as turns
 use Rattle.turns.specs.Turns.{unwindDone, executed}
 
 -- one instruction of the frame, and those that stay in it
@@ -27,10 +25,10 @@ stayDone t m k = looped goes oneDone t (k .left) m k
 
 -- where the top frame is
 abbrev pub methodIn : Lent → Run → ℕ
-methodIn m k = getD (map methodOf (m .frames)) (lookOf (raisedAt k) .top) (lookOf (raisedAt k) .zero)
+methodIn m k = turns.methodIn m (raisedAt k)
 
 abbrev pub addressIn : Lent → Run → ℕ
-addressIn m k = getD (map addressOf (m .frames)) (lookOf (raisedAt k) .top) (lookOf (raisedAt k) .zero)
+addressIn m k = turns.addressIn m (raisedAt k)
 
 abbrev pub stayIn : List ℕ → Lent → Run → Done Stay
 stayIn t m k = stayDone t m (stayOf k (methodIn m k) (addressIn m k))

@@ -2,7 +2,7 @@
 --     fn at(xs: &[S], i: usize, other: S) -> S { if i < xs.len() { xs[i] } else { other } }
 --     fn put(xs: &mut [S], i: usize, c: S) { if i < xs.len() { xs[i] = c; } }
 -- proved once, for any declared struct S of plain data. Neither has a `requires`. It says nothing of the crate.
--- An instance hands over the struct's generated laws, and antt compares the generated contract and MIR with those here by computation (proofs/frame_at/Proof.antt).
+-- An instance hands over the struct's generated laws, and antt compares the generated contract and MIR with those here by computation (proofs/static_at/Proof.antt).
 --     at-meets, put-meets     the MIR meets the contract
 -- Assumes `Given`.
 use mathlib.Core.Path.{_≡_, refl, sym, ap, subst}

@@ -88,12 +88,6 @@ pub fn put_register(frames: &mut [Frame], i: usize, r: usize, v: Value)
     }
 }
 
-pub fn frame_at(frames: &[Frame], i: usize, other: Frame) -> Frame
-    ensures value { λ r. ⌜ r ≡ getD (now (frames .entry)) i other ⌝ }
-{
-    if i < frames.len() { frames[i] } else { other }
-}
-
 pub fn put_frame(frames: &mut [Frame], i: usize, f: Frame)
     ensures memory { λ _. ⌜ now (frames .exit) ≡ set (now (frames .entry)) i f ⌝ }
 {
@@ -139,12 +133,6 @@ pub fn put_cell(objects: &mut [Object], i: usize, r: usize, v: Value)
             objects[i].cells[r] = v;
         }
     }
-}
-
-pub fn object_at(objects: &[Object], i: usize, other: Object) -> Object
-    ensures value { λ r. ⌜ r ≡ getD (now (objects .entry)) i other ⌝ }
-{
-    if i < objects.len() { objects[i] } else { other }
 }
 
 pub fn put_object(objects: &mut [Object], i: usize, o: Object)

@@ -51,7 +51,7 @@ use Rattle.answer.proofs.put_outcome.Met as put-thm
 use Rattle.stepper.proofs.step.Symbol as step-def
 use Rattle.stepper.proofs.step.Symbol.{name as #step}
 use Rattle.stepper.proofs.step.Met as step-thm
-use Rattle.capi.proofs.Said.{says-three}
+use Rattle.stepper.proofs.Said.{says-three}
 use Rattle.capi.proofs.Passed.{txTy, frTy, obTy, stTy, anTy, refF, refO, refV, refW, Passed, Rooms, textVal, framesVal, objectsVal, staticsVal, answerVal, Text, Frames, Objects, Statics, Answer, becomes, Leaves, in-words, Step, Put}
 use Rattle.capi.proofs.Calls.{call-step, call-put}
 use Rattle.capi.proofs.hudzmoke_step.Key.{name as #f}

@@ -5,7 +5,8 @@ use contract.Running.{givenOf, tables, tablesOf}
 use Rattle.work.specs.Work.{binopWorking}
 use Rattle.site.proofs.binop_work.Symbol as effect-def
 use Rattle.site.proofs.binop_work.Met as effect-thm
-use Rattle.work.proofs.Working.{meets, known-in}
+use Rattle.work.proofs.Callees.{known-in}
+use Rattle.work.proofs.Working.{meets}
 use Rattle.work.proofs.binop.Key.{name as #f}
 use Rattle.work.proofs.binop as f
 use Rattle.work.proofs.binop.Statement as stated

@@ -5,7 +5,8 @@ use contract.Running.{givenOf, tables, tablesOf}
 use Rattle.work.specs.Work.{branchWorking}
 use Rattle.site.proofs.branch_work.Symbol as effect-def
 use Rattle.site.proofs.branch_work.Met as effect-thm
-use Rattle.work.proofs.Working.{meets, known-in}
+use Rattle.work.proofs.Callees.{known-in}
+use Rattle.work.proofs.Working.{meets}
 use Rattle.work.proofs.branch.Key.{name as #f}
 use Rattle.work.proofs.branch as f
 use Rattle.work.proofs.branch.Statement as stated

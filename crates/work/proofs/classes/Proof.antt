@@ -5,7 +5,8 @@ use contract.Running.{givenOf, tables, tablesOf}
 use Rattle.work.specs.Work.{classWorking}
 use Rattle.site.proofs.class_work.Symbol as effect-def
 use Rattle.site.proofs.class_work.Met as effect-thm
-use Rattle.work.proofs.Working.{meets, known-in}
+use Rattle.work.proofs.Callees.{known-in}
+use Rattle.work.proofs.Working.{meets}
 use Rattle.work.proofs.classes.Key.{name as #f}
 use Rattle.work.proofs.classes as f
 use Rattle.work.proofs.classes.Statement as stated

@@ -5,7 +5,8 @@ use contract.Running.{givenOf, tables, tablesOf}
 use Rattle.work.specs.Work.{igetWorking}
 use Rattle.site.proofs.iget_work.Symbol as effect-def
 use Rattle.site.proofs.iget_work.Met as effect-thm
-use Rattle.work.proofs.Working.{meets, known-in}
+use Rattle.work.proofs.Callees.{known-in}
+use Rattle.work.proofs.Working.{meets}
 use Rattle.work.proofs.get_field.Key.{name as #f}
 use Rattle.work.proofs.get_field as f
 use Rattle.work.proofs.get_field.Statement as stated

@@ -5,7 +5,8 @@ use contract.Running.{givenOf, tables, tablesOf}
 use Rattle.work.specs.Work.{plainWorking}
 use Rattle.site.proofs.plain_work.Symbol as effect-def
 use Rattle.site.proofs.plain_work.Met as effect-thm
-use Rattle.work.proofs.Working.{meets, known-in}
+use Rattle.work.proofs.Callees.{known-in}
+use Rattle.work.proofs.Working.{meets}
 use Rattle.work.proofs.plain.Key.{name as #f}
 use Rattle.work.proofs.plain as f
 use Rattle.work.proofs.plain.Statement as stated

@@ -5,7 +5,8 @@ use contract.Running.{givenOf, tables, tablesOf}
 use Rattle.work.specs.Work.{iputWorking}
 use Rattle.site.proofs.iput_work.Symbol as effect-def
 use Rattle.site.proofs.iput_work.Met as effect-thm
-use Rattle.work.proofs.Working.{meets, known-in}
+use Rattle.work.proofs.Callees.{known-in}
+use Rattle.work.proofs.Working.{meets}
 use Rattle.work.proofs.put_field.Key.{name as #f}
 use Rattle.work.proofs.put_field as f
 use Rattle.work.proofs.put_field.Statement as stated

@@ -5,7 +5,8 @@ use contract.Running.{givenOf, tables, tablesOf}
 use Rattle.work.specs.Work.{sputWorking}
 use Rattle.site.proofs.sput_work.Symbol as effect-def
 use Rattle.site.proofs.sput_work.Met as effect-thm
-use Rattle.work.proofs.Working.{meets, known-in}
+use Rattle.work.proofs.Callees.{known-in}
+use Rattle.work.proofs.Working.{meets}
 use Rattle.work.proofs.store_static.Key.{name as #f}
 use Rattle.work.proofs.store_static as f
 use Rattle.work.proofs.store_static.Statement as stated
