@@ -51,22 +51,22 @@ statics = staticsOf state (replicate 18 other)
 bottom :
     getD frames 0 otherFrame
     ≡ record {
-        method = 0;
-        address = 2;
-        registers = record { object = 0; number = pos 4 } ∷ replicate 15 zeroValue;
-        result = record { object = 1; number = pos 0 };
-      }
+      method = 0;
+      address = 2;
+      registers = record { object = 0; number = pos 4 } ∷ replicate 15 zeroValue;
+      result = record { object = 1; number = pos 0 };
+    }
 unfolding framesOf
 bottom = refl
 
 top :
     getD frames 1 otherFrame
     ≡ record {
-        method = 3;
-        address = 5;
-        registers = record { object = 0; number = negsuc 0 } ∷ record { object = 1; number = pos 0 } ∷ replicate 14 zeroValue;
-        result = record { object = 0; number = pos 9 };
-      }
+      method = 3;
+      address = 5;
+      registers = record { object = 0; number = negsuc 0 } ∷ record { object = 1; number = pos 0 } ∷ replicate 14 zeroValue;
+      result = record { object = 0; number = pos 9 };
+    }
 unfolding framesOf
 top = refl
 
