@@ -8,7 +8,7 @@ use Rattle.text.proofs.Cases.{never}
 use Rattle.machine.specs.declared.Value as machine
 use Rattle.machine.specs.declared.Value.the-variants.{Number, Reference}
 use Rattle.cells.specs.Cells.{cellOf, valueOf, valueBy}
-use Rattle.cells.specs.Reads.{referenceOf, placeBy}
+use Rattle.cells.specs.Reads.{referenceOf, cellIn, placeBy}
 
 pub add-one : (o : ℕ) → o + 1 ≡ suc o
 add-one o = omega arith
@@ -25,6 +25,15 @@ number-by (suc o) z e = never (omega arith)
 pub reference-by : (o : ℕ) (z : ℤ) → (o ≡ 0 → ⊥) → valueBy o z ≡ Reference (o - 1)
 reference-by zero z d = absurd (d refl)
 reference-by (suc o) z d = let same : suc o - 1 ≡ o = omega arith in rw (same) refl
+
+-- a value that is read is lent again: a number as it was, an object without a number
+pub number-normal : (o : ℕ) (z : ℤ) → o ≡ 0 → record { object = o; number = z } ≡ cellIn (valueBy o z)
+number-normal zero z e = refl
+number-normal (suc o) z e = never (omega arith)
+
+pub object-normal : (o : ℕ) (z : ℤ) → (o ≡ 0 → ⊥) → o < 4294967296 → record { object = o; number = pos 0 } ≡ cellIn (valueBy o z)
+object-normal zero z d l = absurd (d refl)
+object-normal (suc o) z d l = rw (lt-ltb o 4294967295 (omega arith)) refl
 
 pub number-place : (o : ℕ) → o ≡ 0 → placeBy o ≡ 18446744073709551615
 number-place zero e = refl

@@ -94,6 +94,20 @@ pub fn cell_of(v: machine::Value) -> Value
     }
 }
 
+// The same value as it is lent: that of an object has no number.
+pub fn normal(c: Value) -> Value
+    ensures value { λ r. ⌜ r ≡ cellIn (valueOf c) ⌝ }
+{
+    if c.object == 0 {
+        c
+    } else {
+        Value {
+            object: c.object,
+            number: 0,
+        }
+    }
+}
+
 // Which object a value is; for a number, one past every slice.
 pub fn object_place(c: Value) -> usize
     ensures value { λ r. ⌜ r ≡ objectPlace c ⌝ }

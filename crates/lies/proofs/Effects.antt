@@ -53,12 +53,13 @@ module _ {p : Program} {s : State} {before : Lent} {k : Tally} {now : Lent} {f :
         → apply p s f rest e .status ≡ running
         → length (apply p s f rest e .objects) ≡ length (s .objects)
         → g .method ≡ f .method
+        → w .address ≡ w .gone .next
         → withRegister (frameOf f) (w .to) (w .value) ≡ frameOf g
-        → apply p s f rest e .frames ≡ moved g (w .gone .next) ∷ rest
+        → apply p s f rest e .frames ≡ moved g (w .address) ∷ rest
         → workedOn now (length rest) w .objects ≡ objectsOf (apply p s f rest e) (before .objects)
         → workedOn now (length rest) w .statics ≡ staticsOf (apply p s f rest e) (before .statics)
         → (stopOf p s ≡ none) × (Lies (step p s) before k (workedOn now (length rest) w) × Onward (step p s) f rest (w .gone .next))
-    went w g free runs count method written frames objects statics =
+    went w g free runs count method next written frames objects statics =
         let u : State = apply p s f rest e in
         let height : length (u .frames) ≡ length (s .frames) =
         ap (λ (fs : List Frame). length fs) frames ∙ sym (ap (λ (fs : List Frame). length fs) (h .here .frames)) in (
@@ -75,19 +76,19 @@ module _ {p : Program} {s : State} {before : Lent} {k : Tally} {now : Lent} {f :
               few-objects = omega (arith, count, h .lies .few-objects);
               waiting = rw frames (rw (h .here .frames) at (h .lies .waiting));
             },
-            record { frame = moved g (w .gone .next); frames = frames; method = method; address = refl },
+            record { frame = moved g (w .address); frames = frames; method = method; address = next },
           ),
         )
 
     -- only the frame changes
-    framed : (w : Work) (g : Frame) → room s e ≡ none → w .object ≡ nowhere → w .fixed ≡ nowhere → g .method ≡ f .method
-        → withRegister (frameOf f) (w .to) (w .value) ≡ frameOf g → apply p s f rest e ≡ withFrames s (moved g (w .gone .next) ∷ rest)
+    framed : (w : Work) (g : Frame) → room s e ≡ none → w .object ≡ nowhere → w .fixed ≡ nowhere → g .method ≡ f .method → w .address ≡ w .gone .next
+        → withRegister (frameOf f) (w .to) (w .value) ≡ frameOf g → apply p s f rest e ≡ withFrames s (moved g (w .address) ∷ rest)
         → (stopOf p s ≡ none) × (Lies (step p s) before k (workedOn now (length rest) w) × Onward (step p s) f rest (w .gone .next))
-    framed w g free object fixed method written shape =
+    framed w g free object fixed method next written shape =
         went w g free
         (ap (λ (u : State). u .status) shape)
         (ap (λ (u : State). length (u .objects)) shape)
-        method written
+        method next written
         (ap (λ (u : State). u .frames) shape)
         (objects-kept h w (apply p s f rest e) object (sym (ap (λ (u : State). u .objects) shape)))
         (statics-kept h w (apply p s f rest e) fixed (sym (ap (λ (u : State). u .statics) shape)))
@@ -104,30 +105,30 @@ module _ {p : Program} {s : State} {before : Lent} {k : Tally} {now : Lent} {f :
   pub gone : (e : Effect) → effectAt p s f ≡ e → Fitting p s f e → Looks (first h) (site h) e
       → Stayed p s before k now f rest (done (workBy e .gone) (workedOn now (length rest) (workBy e)))
   gone Next is fits looks =
-      framed Next is (workBy Next) f refl refl refl refl (unwritten h zeroValue) (ap (withFrames s) (one-on f))
+      framed Next is (workBy Next) f refl refl refl refl refl (unwritten h zeroValue) (ap (withFrames s) (one-on f))
   gone (Jump to) is fits looks =
-      framed (Jump to) is (workBy (Jump to)) f refl refl refl refl (unwritten h zeroValue) refl
+      framed (Jump to) is (workBy (Jump to)) f refl refl refl refl refl (unwritten h zeroValue) refl
   gone (Write a v) is fits looks =
-      framed (Write a v) is (workBy (Write a v)) (put h a v) refl refl refl refl
+      framed (Write a v) is (workBy (Write a v)) (put h a v) refl refl refl refl refl
       (written h a v (reads.cellIn v) (value-is h v (fits .1)) (fits .0))
       (ap (withFrames s) (one-on (put h a v)))
   gone (Load a o x) is fits looks =
-      framed (Load a o x) is (workBy (Load a o x)) (put h a (cell s o x)) refl refl refl refl
+      framed (Load a o x) is (workBy (Load a o x)) (put h a (cell s o x)) refl refl refl refl refl
       (written h a (cell s o x) (cellIn now (site h)) (cell-loaded h o x (looks .0) (looks .1) (fits .1) (fits .2)) (fits .0))
       (ap (withFrames s) (one-on (put h a (cell s o x))))
   gone (LoadStatic a x) is fits looks =
-      framed (LoadStatic a x) is (workBy (LoadStatic a x)) (put h a (static s x)) refl refl refl refl
+      framed (LoadStatic a x) is (workBy (LoadStatic a x)) (put h a (static s x)) refl refl refl refl refl
       (written h a (static s x) (staticIn now (site h)) (static-loaded h x looks (fits .1)) (fits .0))
       (ap (withFrames s) (one-on (put h a (static s x))))
   gone (Make a c) is fits looks = absurd looks
   gone (Store o x v) is fits looks =
       went (Store o x v) is (workBy (Store o x v)) f refl refl
       (length-set (s .objects) o (stored (objectAt s o) x v))
-      refl (unwritten h (reads.cellIn v)) (one-on f)
+      refl refl (unwritten h (reads.cellIn v)) (one-on f)
       (object-stored h o x v (fits .0) (fits .1) (fits .2) (apply p s f rest (Store o x v)) refl)
       (statics-kept h (workBy (Store o x v)) (apply p s f rest (Store o x v)) refl refl)
   gone (StoreStatic x v) is fits looks =
-      went (StoreStatic x v) is (workBy (StoreStatic x v)) f refl refl refl refl (unwritten h (reads.cellIn v)) (one-on f)
+      went (StoreStatic x v) is (workBy (StoreStatic x v)) f refl refl refl refl refl (unwritten h (reads.cellIn v)) (one-on f)
       (objects-kept h (workBy (StoreStatic x v)) (apply p s f rest (StoreStatic x v)) refl refl)
       (static-stored h x v (fits .0) (fits .1) (apply p s f rest (StoreStatic x v)) refl)
   gone (Call m c) is fits looks = absurd looks

@@ -11,6 +11,9 @@ use borrow.Author.Tests.{eqb-true}
 use Rattle.instruction.specs.declared.Instruction.{Instruction}
 use Rattle.instruction.specs.declared.Instruction.the-variants.{Binop, Iget, Iput, Sget, Sput}
 use Rattle.instruction.specs.Word.{pick, operationOf, instructionOf}
+use Rattle.instruction.specs.Test.{Holds}
+use Rattle.operands.specs.Names.{named}
+use Rattle.values.specs.Values.{limitsOf}
 use Rattle.program.specs.Program.{Program}
 use Rattle.program.specs.Tables.{programIn}
 use Rattle.reader.specs.Formed.{Formed}
@@ -44,7 +47,8 @@ use Rattle.drive.specs.Models.{Lent, Done, done}
 use Rattle.work.specs.Work.{firstIn, secondIn, resultIn, classIn, workedOn, worked, workOn, binopDone, branchDone, igetDone, iputDone, sgetDone, sputDone, classDone, plainDone, fromClass, fromLeaving, fromSput, fromSget, fromIput, fromIget, fromBranch, performed}
 use Rattle.lies.specs.Lies.{Roomy, Lies}
 use Rattle.lies.specs.Staying.{siteAt, Stayed}
-use Rattle.lies.proofs.Values.{Ready, site, first, second, first-read, second-read, result-read, class-read}
+use Rattle.lies.proofs.Values.{Ready, method, site, first, second, first-read, second-read, result-read, class-read}
+use Rattle.lies.proofs.Registers.{first-low, second-low}
 use Rattle.lies.proofs.Looks.{Looks, binop-stays, branch-stays, iget-stays, iput-stays, sget-stays, sput-stays, class-stays, plain-stays}
 use Rattle.lies.proofs.Effects.{stop-is, step-is, workBy, gone}
 
@@ -56,9 +60,15 @@ module _ {p : Program} {s : State} {before : Lent} {k : Tally} {now : Lent} {f :
     (h : Ready p s before k now f rest) where
   -- what the instruction decides of the values in the state, and of the values read, is its effect
   module _ (stays : leavesOf (site h) ≡ false) (i : Instruction) (chosen : i ≡ instructionOf (site h .word)) where
+    -- "Each register … named must exist"
+    names : Holds (named (limitsOf p (f .method)) (instructionOf (site h .word)))
+    names = method h .names (f .address) (h .here .inside)
+
     effect-is : decided p (first h) (second h) (f .result) (state.classOf s (first h)) i ≡ effectAt p s f
     effect-is =
-        ap (decided p (first h) (second h) (f .result) (state.classOf s (first h))) chosen ∙ decided-wanted p s f (site h) stays
+        ap (decided p (first h) (second h) (f .result) (state.classOf s (first h))) chosen ∙ decided-wanted p s f (site h) refl stays
+        (first-low (limitsOf p (f .method)) (method h .registers-to) (instructionOf (site h .word)) names)
+        (second-low (limitsOf p (f .method)) (method h .registers-to) (instructionOf (site h .word)) names)
 
     effect-read : decided p (valueOf (firstIn now (site h))) (valueOf (secondIn now (site h))) (valueOf (resultIn now (site h))) (classIn now (site h)) i ≡ effectAt p s f
     effect-read =

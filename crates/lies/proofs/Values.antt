@@ -9,7 +9,7 @@ use lib.ListN.{length, getD, List·getD-eq-default}
 use borrow.Author.Tests.{ltb-true, ltb-false}
 use Rattle.text.proofs.Cases.{by-test}
 use Rattle.program.specs.Program.{Program, fieldCount}
-use Rattle.reader.specs.Formed.{Formed}
+use Rattle.reader.specs.Formed.{FormedMethod, Formed}
 use Rattle.machine.specs.declared.Value as machine
 use Rattle.machine.specs.declared.Value.the-variants.{Number, Reference}
 use Rattle.machine.specs.State as state
@@ -59,14 +59,12 @@ module _ {p : Program} {s : State} {before : Lent} {k : Tally} {now : Lent} {f :
   pub frame-shaped : ShapedFrame p (length (s .objects)) f
   frame-shaped = top-shaped p s (h .shaped) f rest (h .here .frames) .0
 
+  pub method : FormedMethod p (f .method)
+  method = h .formed .methods (f .method) (method-exists p (f .method) (f .address) (h .here .inside))
+
   -- "r registers (1 to 16)"
   pub few-registers : length (f .registers) ≤ 16
-  few-registers =
-      omega (
-        arith,
-        frame-shaped .size,
-        h .formed .methods (f .method) (method-exists p (f .method) (f .address) (h .here .inside)) .registers-to,
-      )
+  few-registers = omega (arith, frame-shaped .size, method .registers-to)
 
   pub low : length rest < 32
   low = omega (arith, h .lies .few-frames, ap (λ (fs : List state.Frame). length fs) (h .here .frames))

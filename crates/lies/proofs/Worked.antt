@@ -1,7 +1,7 @@
 -- What the code writes for an instruction that stays in its frame, one slice after the other. Assumes nothing.
 use mathlib.Core.Path.{_≡_, refl, sym, ap, _∙_}
 use mathlib.Core.List.{List, _∷_}
-use Prim.Native.Nat.{ℕ, _≤_, _<_}
+use Prim.Native.Nat.{ℕ, _%_, _≤_, _<_}
 use native.Mathlib.Omega.{arith}
 use lib.ListN.{length, getD, set}
 use Rattle.program.specs.Program.{Program, fieldCount}
@@ -38,18 +38,22 @@ module _ {p : Program} {s : State} {before : Lent} {k : Tally} {now : Lent} {f :
   abbrev pub put : ℕ → machine.Value → Frame
   put a v = record { method = f .method; address = f .address; registers = set (f .registers) a v; result = f .result }
 
-  pub written : (a : ℕ) (v : machine.Value) (c : Value) → c ≡ cellOf v → a < length (f .registers) → withRegister (frameOf f) a c ≡ frameOf (put a v)
+  pub written : (a : ℕ) (v : machine.Value) (c : Value) → c ≡ cellOf v → a < length (f .registers)
+      → withRegister (frameOf f) (a % 16) c ≡ frameOf (put a v)
   written a v c e l =
-      ap (withRegister (frameOf f) a) e ∙ register-put f a v l (few-registers h)
+      rw (modulo a l) (ap (withRegister (frameOf f) a) e ∙ register-put f a v l (few-registers h))
+    where
+      modulo : (a : ℕ) → a < length (f .registers) → a % 16 ≡ a
+      modulo a l = omega (arith, l, few-registers h)
 
   -- the top frame has a register written, and is at another address
-  pub frames-after : (w : Work) (g : Frame) (u : State) → withRegister (frameOf f) (w .to) (w .value) ≡ frameOf g → u .frames ≡ moved g (w .gone .next) ∷ rest
+  pub frames-after : (w : Work) (g : Frame) (u : State) → withRegister (frameOf f) (w .to) (w .value) ≡ frameOf g → u .frames ≡ moved g (w .address) ∷ rest
       → workedOn now (length rest) w .frames ≡ framesOf u (before .frames)
   frames-after w g u e q =
-      ap (λ (fs : List cells.Frame). movedFrames fs (length rest) (w .gone .next)) wrote-is
-      ∙ ap (λ (y : cells.Frame). set (framesOf mid (before .frames)) (length rest) (withAddress y (w .gone .next)))
+      ap (λ (fs : List cells.Frame). movedFrames fs (length rest) (w .address)) wrote-is
+      ∙ ap (λ (y : cells.Frame). set (framesOf mid (before .frames)) (length rest) (withAddress y (w .address)))
       (top-read mid (before .frames) absentFrame g rest refl few (h .roomy .frames))
-      ∙ top-put mid u (before .frames) g (moved g (w .gone .next)) rest refl q few (h .roomy .frames)
+      ∙ top-put mid u (before .frames) g (moved g (w .address)) rest refl q few (h .roomy .frames)
     where
       few : length rest < 32
       few = low h
@@ -105,7 +109,7 @@ module _ {p : Program} {s : State} {before : Lent} {k : Tally} {now : Lent} {f :
       ∙ static-put s u (before .statics) x v (static-low h x l) l (h .roomy .statics) q
 
   -- nothing is written, and the frame stays where it is
-  pub unchanged : (w : Work) → w .to ≡ 16 → w .object ≡ nowhere → w .fixed ≡ nowhere → w .gone .next ≡ f .address → workedOn now (length rest) w ≡ now
+  pub unchanged : (w : Work) → w .to ≡ 16 → w .object ≡ nowhere → w .fixed ≡ nowhere → w .address ≡ f .address → workedOn now (length rest) w ≡ now
   unchanged w to object fixed next =
       same now _ _ _
       (frames-after w f s (rw to (unwritten (w .value))) (rw next (h .here .frames)) ∙ sym (h .lies .frames))

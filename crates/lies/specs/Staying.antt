@@ -17,14 +17,19 @@ use Rattle.site.specs.declared.Gone.{Gone}
 use Rattle.site.specs.declared.How.{How}
 use Rattle.site.specs.declared.How.the-variants.{Went, Leaves, Failed}
 use Rattle.site.specs.declared.Site.{Site}
-use Rattle.site.specs.Site.{leavesOf, leftAt}
+use Rattle.site.specs.Site.{opcodeOf, leavesOf, leftAt}
 use Rattle.drive.specs.Models.{Lent, Done, done}
 use Rattle.lies.specs.Lies.{Lies}
 
 -- where the instruction at a state's top frame stands
 abbrev pub siteAt : Program → Frame → List Frame → Site
 siteAt p f rest =
-    record { top = length rest; pc = f .address; word = wordAt p (f .method) (f .address) }
+    record {
+      top = length rest;
+      pc = f .address;
+      word = wordAt p (f .method) (f .address);
+      opcode = opcodeOf (wordAt p (f .method) (f .address));
+    }
 
 -- the next state's top frame
 pub record Onward (s : State) (f : Frame) (rest : List Frame) (to : ℕ) : Type 0 where

@@ -1,12 +1,12 @@
 -- Where the loop that stays in a frame begins, and addresses outside a method. Assumes nothing.
 use mathlib.Core.Path.{_≡_, refl, sym, ap, subst, _∙_}
 use mathlib.Core.Bool.{Bool, true, false, not, _&&_}
-use mathlib.Core.List.{List, [], _∷_, map}
+use mathlib.Core.List.{List, [], _∷_}
 use mathlib.Core.Option.{some}
 use Prim.Native.Nat.{ℕ, suc, _%_, _≤_, _<_}
 use native.Mathlib.Omega.{arith}
 use lib.Dec.{T as Holds, ltb}
-use lib.ListN.{length, getD, List·getD-map}
+use lib.ListN.{length}
 use borrow.Author.Tests.{lt-ltb, le-ltb, eq-eqb, ne-eqb}
 use Rattle.text.proofs.Cases.{never}
 use Rattle.program.specs.Program.{Program, codeLength}
@@ -16,17 +16,14 @@ use Rattle.machine.specs.State.{Frame, State, running}
 use Rattle.turn.specs.declared.Status.the-variants.{Running}
 use Rattle.turn.specs.declared.Halt.the-variants.{Outside}
 use Rattle.turn.specs.Stop.{stopOf}
-use Rattle.cells.specs.declared.Frame as cells
-use Rattle.cells.specs.Cells.{frameOf}
-use Rattle.store.specs.Store.{absentFrame, methodOf, addressOf}
-use Rattle.laid.proofs.Frames.{top-read}
 use Rattle.shift.specs.declared.Run.{Run}
 use Rattle.shift.specs.declared.Stay.{Stay}
-use Rattle.shift.specs.Stay.{beginAt, stayOf}
-use Rattle.shift.specs.Places.{topOf, lookOf}
+use Rattle.shift.specs.Stay.{beginAt, stayOf, raisedAt}
+use Rattle.shift.specs.Places.{topOf}
 use Rattle.drive.specs.Models.{Lent}
 use Rattle.drive.proofs.Turns.{turn-over}
 use Rattle.lies.specs.Lies.{statusOf, Roomy}
+use Rattle.shifting.proofs.Looked.{method-in, address-in}
 use Rattle.rounds.specs.Rounds.{oneDone, goes, methodIn, addressIn, stayIn}
 use Rattle.ran.specs.Ran.{Going}
 use Rattle.ran.specs.Rounding.{Standing, Paused}
@@ -77,16 +74,7 @@ module _ (p : Program) (n : ℕ) (s : State) (before : Lent) (k : Run) (now : Le
     top : topOf (k .tally .depth) ≡ length rest
     top = top-is (k .tally .depth) (length rest) deep
 
-    -- the top frame's method and address
-    read : (part : cells.Frame → ℕ) → getD (map part (now .frames)) (topOf (k .tally .depth)) (part absentFrame) ≡ part (frameOf f)
-    read part =
-        rw top
-        (List·getD-map part (now .frames) (length rest) absentFrame
-        ∙ ap part (ap (λ (fs : List cells.Frame). getD fs (length rest) absentFrame) (g .lies .frames)
-        ∙ top-read (g .state) (before .frames) absentFrame f rest frames (omega (arith, deep, g .lies .depth, g .lies .few-frames)) (roomy .frames)))
-
     pub standing : Standing p n s before (k .tally) (stayOf k (methodIn now k) (addressIn now k)) now
-    unfolding lookOf
     standing =
         record {
           going = g;
@@ -94,8 +82,10 @@ module _ (p : Program) (n : ℕ) (s : State) (before : Lent) (k : Run) (now : Le
           rest = rest;
           frames = frames;
           top = top;
-          method = read methodOf;
-          pc = begin-is (k .tally .depth) (length rest) (addressIn now k) deep ∙ read addressOf;
+          method = method-in (g .state) before now roomy (raisedAt k) (g .lies) f rest frames;
+          pc =
+              begin-is (k .tally .depth) (length rest) (addressIn now k) deep
+              ∙ address-in (g .state) before now roomy (raisedAt k) (g .lies) f rest frames;
           how = refl;
         }
 

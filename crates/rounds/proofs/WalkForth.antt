@@ -201,10 +201,10 @@ module _ (_ : Unit {0}) where
         v₇ = lookOf v₆
 
         abbrev v₈ : ℕ
-        v₈ = getD (map methodOf (m .frames)) (v₇ .top) (v₇ .zero)
+        v₈ = getD (map methodOf (m .frames)) (v₇ .top) (v₇ .missing)
 
         abbrev v₉ : ℕ
-        v₉ = getD (map addressOf (m .frames)) (v₇ .top) (v₇ .zero)
+        v₉ = getD (map addressOf (m .frames)) (v₇ .top) (v₇ .missing)
 
         abbrev v₁₀ : Stay
         v₁₀ = stayOf p v₈ v₉
@@ -252,11 +252,11 @@ module _ (_ : Unit {0}) where
               rewrite ! 50 (λ (u : Val). ‵ (fat fullShare Lo′.mir l₇ 0 u)) (ap only (LL.tells Lo.the-type Lo′.the-laws v₇ _ is₂)) refl $
               assigns ! (addr ! (from ! (fld ! refl (hop ! (look-in ! 60 (sub ! 0 refl (whole !))) (stop !))))) (from ! (stop !)) (init ! 38 refl (tt, tt)) $
               assigns ! (agg ! (and-then ! (load ! (from ! (stop !)) (look ! 38 refl)) (and-then ! (load ! (from ! (fld ! refl (stop !))) (look-in ! 60 (sub ! 1 refl (whole !)))) (no-more !)))) (from ! (stop !)) (init ! 36 refl (tt, (tt, (record { fits = rooms .frames .0 }, tt)))) $
-              cf.call-at F.the-type (UInt w32) (vint w32) methodOf withMethod absentFrame ! (uint-tells w32) (uint-makes 𝓤 H A W w32) fm known-method-at (x .b₁) (x .o₁) (x .n₁) (m .frames) (fits .frames) (v₇ .top) (v₇ .zero) (rooms .frames) ((LL.owed Lo.the-type Lo′.the-laws v₇ _ (subst (Is Lo.the-row v₇) (LL.tells Lo.the-type Lo′.the-laws v₇ (w₂ ∷ []) is₂) is₂) .0) .1) (LL.owed Lo.the-type Lo′.the-laws v₇ _ (subst (Is Lo.the-row v₇) (LL.tells Lo.the-type Lo′.the-laws v₇ (w₂ ∷ []) is₂) is₂) .1 .1 .1 .1 .0) (λ I J. (and-then ! (load ! (from ! (stop !)) (look ! 36 refl)) (and-then ! (load ! (from ! (fld ! refl (stop !))) (look-in ! 50 (sub ! 0 refl (whole !)))) (and-then ! (load ! (from ! (fld ! refl (stop !))) (look-in ! 50 (sub ! 4 refl (whole !)))) (no-more !))))) (λ is₃.
+              cf.call-at F.the-type (UInt w32) (vint w32) methodOf withMethod absentFrame ! (uint-tells w32) (uint-makes 𝓤 H A W w32) fm known-method-at (x .b₁) (x .o₁) (x .n₁) (m .frames) (fits .frames) (v₇ .top) (v₇ .missing) (rooms .frames) ((LL.owed Lo.the-type Lo′.the-laws v₇ _ (subst (Is Lo.the-row v₇) (LL.tells Lo.the-type Lo′.the-laws v₇ (w₂ ∷ []) is₂) is₂) .0) .1) (LL.owed Lo.the-type Lo′.the-laws v₇ _ (subst (Is Lo.the-row v₇) (LL.tells Lo.the-type Lo′.the-laws v₇ (w₂ ∷ []) is₂) is₂) .1 .1 .1 .1 .0) (λ I J. (and-then ! (load ! (from ! (stop !)) (look ! 36 refl)) (and-then ! (load ! (from ! (fld ! refl (stop !))) (look-in ! 50 (sub ! 0 refl (whole !)))) (and-then ! (load ! (from ! (fld ! refl (stop !))) (look-in ! 50 (sub ! 4 refl (whole !)))) (no-more !))))) (λ is₃.
               land ! (from ! (stop !)) (init ! 48 refl (uint-lawful 𝓤 H A W w32 .typed v₈ _ is₃ .0)) $
               assigns ! (addr ! (from ! (fld ! refl (hop ! (look-in ! 60 (sub ! 0 refl (whole !))) (stop !))))) (from ! (stop !)) (init ! 34 refl (tt, tt)) $
               assigns ! (agg ! (and-then ! (load ! (from ! (stop !)) (look ! 34 refl)) (and-then ! (load ! (from ! (fld ! refl (stop !))) (look-in ! 60 (sub ! 1 refl (whole !)))) (no-more !)))) (from ! (stop !)) (init ! 32 refl (tt, (tt, (record { fits = rooms .frames .0 }, tt)))) $
-              cf.call-at F.the-type (UInt w32) (vint w32) addressOf withAddress absentFrame ! (uint-tells w32) (uint-makes 𝓤 H A W w32) fm known-address-at (x .b₁) (x .o₁) (x .n₁) (m .frames) (fits .frames) (v₇ .top) (v₇ .zero) (rooms .frames) ((LL.owed Lo.the-type Lo′.the-laws v₇ _ (subst (Is Lo.the-row v₇) (LL.tells Lo.the-type Lo′.the-laws v₇ (w₂ ∷ []) is₂) is₂) .0) .1) (LL.owed Lo.the-type Lo′.the-laws v₇ _ (subst (Is Lo.the-row v₇) (LL.tells Lo.the-type Lo′.the-laws v₇ (w₂ ∷ []) is₂) is₂) .1 .1 .1 .1 .0) (λ I J. (and-then ! (load ! (from ! (stop !)) (look ! 32 refl)) (and-then ! (load ! (from ! (fld ! refl (stop !))) (look-in ! 50 (sub ! 0 refl (whole !)))) (and-then ! (load ! (from ! (fld ! refl (stop !))) (look-in ! 50 (sub ! 4 refl (whole !)))) (no-more !))))) (λ is₄.
+              cf.call-at F.the-type (UInt w32) (vint w32) addressOf withAddress absentFrame ! (uint-tells w32) (uint-makes 𝓤 H A W w32) fm known-address-at (x .b₁) (x .o₁) (x .n₁) (m .frames) (fits .frames) (v₇ .top) (v₇ .missing) (rooms .frames) ((LL.owed Lo.the-type Lo′.the-laws v₇ _ (subst (Is Lo.the-row v₇) (LL.tells Lo.the-type Lo′.the-laws v₇ (w₂ ∷ []) is₂) is₂) .0) .1) (LL.owed Lo.the-type Lo′.the-laws v₇ _ (subst (Is Lo.the-row v₇) (LL.tells Lo.the-type Lo′.the-laws v₇ (w₂ ∷ []) is₂) is₂) .1 .1 .1 .1 .0) (λ I J. (and-then ! (load ! (from ! (stop !)) (look ! 32 refl)) (and-then ! (load ! (from ! (fld ! refl (stop !))) (look-in ! 50 (sub ! 0 refl (whole !)))) (and-then ! (load ! (from ! (fld ! refl (stop !))) (look-in ! 50 (sub ! 4 refl (whole !)))) (no-more !))))) (λ is₄.
               land ! (from ! (stop !)) (init ! 46 refl (uint-lawful 𝓤 H A W w32 .typed v₉ _ is₄ .0)) $
               nothing ! $
               nothing ! $

@@ -52,8 +52,8 @@ fn forth(
 {
     let h = shift::raised_at(k);
     let w = shift::looked(h);
-    let m = store::method_at(frames, w.top, w.zero);
-    let a = store::address_at(frames, w.top, w.zero);
+    let m = store::method_at(frames, w.top, w.missing);
+    let a = store::address_at(frames, w.top, w.missing);
     let s = shift::stay_of(k, m, a);
     let j = stay(t, frames, objects, statics, s);
     let e = shift::at_of(t, k, j);

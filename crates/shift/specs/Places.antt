@@ -32,7 +32,7 @@ lookOf h =
       first = pick (eqb (h .opcode) 12) (cOf (h .word)) (aOf (h .word));
       below = belowOf (h .run .tally .depth);
       none = zeroValue;
-      zero = 0;
+      missing = 4294967295;
       class = 64;
     }
 

@@ -50,7 +50,13 @@ stayOf k m a =
 
 -- where it stands; an address lies below 32
 abbrev pub siteOf : Program → Stay → Site
-siteOf p k = record { top = k .top; pc = k .pc % 256; word = wordAt p (k .method) (k .pc) }
+siteOf p k =
+    record {
+      top = k .top;
+      pc = k .pc % 256;
+      word = wordAt p (k .method) (k .pc);
+      opcode = opcodeOf (wordAt p (k .method) (k .pc));
+    }
 
 -- it goes on while the last instruction went to an address of the method and a step may still be made
 abbrev pub goesOn : Program → Stay → Bool

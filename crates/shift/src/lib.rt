@@ -69,7 +69,7 @@ pub struct Stay {
     pub left: u64,
     pub top: usize,
     pub method: u32,
-    pub pc: u32,
+    pub pc: usize,
     pub how: How,
 }
 
@@ -79,7 +79,7 @@ pub struct Look {
     pub first: usize,
     pub below: usize,
     pub none: Value,
-    pub zero: u32,
+    pub missing: u32,
     pub class: u32,
 }
 
@@ -114,8 +114,9 @@ pub struct Shift {
 pub fn top_of(depth: u8) -> usize
     ensures value { λ r. ⌜ r ≡ topOf depth ⌝ }
 {
-    if 0 < depth {
-        return (depth - 1) as usize;
+    let d = depth as usize;
+    if 0 < d {
+        return d - 1;
     }
     18446744073709551615
 }
@@ -159,7 +160,7 @@ pub fn looked(h: At) -> Look
         first: register_of(h.opcode, h.word) as usize,
         below: below_of(depth),
         none: cells::zero_value(),
-        zero: 0,
+        missing: 4294967295,
         class: 64,
     }
 }

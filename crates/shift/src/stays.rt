@@ -15,10 +15,12 @@ ghost use Rattle.shift.specs.Stay.{siteOf, goesOn, wentTo, beginAt, stay
 pub fn site_of(t: &[u64; 768], k: Stay) -> Site
     ensures value { λ r. ⌜ r ≡ siteOf (programIn (now (t .entry))) k ⌝ }
 {
+    let word = program::code_word(t, k.method as usize, k.pc) as u64;
     Site {
         top: k.top,
         pc: (k.pc % 256) as u8,
-        word: program::code_word(t, k.method as usize, k.pc as usize) as u64,
+        word,
+        opcode: site::opcode(word),
     }
 }
 
@@ -33,7 +35,7 @@ pub fn goes(t: &[u64; 768], k: Stay) -> bool
     if k.left == 0 {
         return false;
     }
-    (k.pc as usize) < program::code_length(t, k.method as usize)
+    k.pc < program::code_length(t, k.method as usize)
 }
 
 // One instruction further.
@@ -68,7 +70,7 @@ pub fn stay_of(run: Run, m: u32, a: u32) -> Stay
         left: run.left,
         top: top_of(run.tally.depth),
         method: m,
-        pc: begin_at(run.tally.depth, a),
+        pc: begin_at(run.tally.depth, a) as usize,
         how: How::Went,
     }
 }
@@ -93,7 +95,7 @@ pub fn at_of(t: &[u64; 768], run: Run, j: Stay) -> At
     let tally = run.tally;
     let stop = run.stop;
     let how = j.how;
-    let word = program::code_word(t, j.method as usize, j.pc as usize) as u64;
+    let word = program::code_word(t, j.method as usize, j.pc) as u64;
     let run = Run {
         left: again_left(j.left, how),
         tally,

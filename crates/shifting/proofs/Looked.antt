@@ -69,7 +69,7 @@ module _ (s : State) (before now : Lent) (roomy : Roomy before) (h : At) (lies :
         let size : length (framesOf s (before .frames)) ≡ length (before .frames) = frames-length s (before .frames) in
         let few : length (f ∷ rest) ≤ 32 = shallow (f ∷ rest) e in
         rw (lies .frames, top-of (h .run .tally .depth) (length rest) (deep (f ∷ rest) e))
-        (part-read methodOf (framesOf s (before .frames)) (length rest) 0 absentFrame (omega (arith, size, few, roomy .frames))
+        (part-read methodOf (framesOf s (before .frames)) (length rest) 4294967295 absentFrame (omega (arith, size, few, roomy .frames))
         ∙ ap methodOf (top-read s (before .frames) absentFrame f rest e few (roomy .frames)))
 
     pub address-in : addressIn now h ≡ f .address
@@ -78,7 +78,7 @@ module _ (s : State) (before now : Lent) (roomy : Roomy before) (h : At) (lies :
         let size : length (framesOf s (before .frames)) ≡ length (before .frames) = frames-length s (before .frames) in
         let few : length (f ∷ rest) ≤ 32 = shallow (f ∷ rest) e in
         rw (lies .frames, top-of (h .run .tally .depth) (length rest) (deep (f ∷ rest) e))
-        (part-read addressOf (framesOf s (before .frames)) (length rest) 0 absentFrame (omega (arith, size, few, roomy .frames))
+        (part-read addressOf (framesOf s (before .frames)) (length rest) 4294967295 absentFrame (omega (arith, size, few, roomy .frames))
         ∙ ap addressOf (top-read s (before .frames) absentFrame f rest e few (roomy .frames)))
 
     -- a register, null where there is none
@@ -102,7 +102,7 @@ module _ (s : State) (before now : Lent) (roomy : Roomy before) (h : At) (lies :
       let size : length (framesOf s (before .frames)) ≡ length (before .frames) = frames-length s (before .frames) in
       let few : length (f ∷ g ∷ rest) ≤ 32 = shallow (f ∷ g ∷ rest) e in
       rw (lies .frames, below-of (h .run .tally .depth) (length rest) (deep (f ∷ g ∷ rest) e))
-      (part-read addressOf (framesOf s (before .frames)) (length rest) 0 absentFrame (omega (arith, size, few, roomy .frames))
+      (part-read addressOf (framesOf s (before .frames)) (length rest) 4294967295 absentFrame (omega (arith, size, few, roomy .frames))
       ∙ ap addressOf (below-read s (before .frames) absentFrame f g rest e few (roomy .frames)))
 
   -- the class of an object, and of a value

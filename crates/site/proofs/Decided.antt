@@ -2,7 +2,8 @@
 use mathlib.Core.Path.{_≡_, refl, sym}
 use mathlib.Core.Bool.{false, false≢true}
 use mathlib.Core.Option.{Option, none, some}
-use Prim.Native.Nat.{ℕ}
+use Prim.Native.Nat.{ℕ, _%_, _<_}
+use native.Mathlib.Omega.{arith}
 use lib.Dec.{eqb, ltb}
 use lib.IntN.{ℤ}
 use borrow.Author.Tests.{eqb-true}
@@ -109,6 +110,15 @@ abbrev pub Names : Option ℕ → ℕ → Type 0
 Names none n = Unit {0}
 Names (some r) n = n ≡ r
 
+-- it is below 16, if there is one
+abbrev pub Low : Option ℕ → Type 0
+Low none = Unit {0}
+Low (some r) = r < 16
+
+modulo-16 : (o : Option ℕ) (n : ℕ) → Low o → Names o n → Names o (n % 16)
+modulo-16 none n l e = tt
+modulo-16 (some r) n l e = omega (arith, l, e)
+
 -- so where n and m are the registers of an instruction, their values will do
 named : (p : Program) (s : State) (f : Frame) (i : Instruction) (n m : ℕ) → Names (firstRegister i) n → Names (secondRegister i) m
     → decided p (register f n) (register f m) (f .result) (classOf s (register f n)) i ≡ decide p s f i
@@ -168,21 +178,26 @@ fields-wanted o w d v h =
     (by-opcode P o 19 _ _ (λ e. (rw e, tt))
     (by-opcode P o 20 _ _ (λ e. (rw e, tt)) (tt, tt))))))))))))))))))))
 
-wants : (s : Site) → leavesOf s ≡ false → Wanted (opcodeOf (s .word)) (s .word) (instructionOf (s .word))
+wants : (s : Site) → s .opcode ≡ opcodeOf (s .word) → leavesOf s ≡ false → Wanted (s .opcode) (s .word) (instructionOf (s .word))
 unfolding instructionOf opcodeOf aOf bOf cOf
-wants s h = fields-wanted _ (s .word) _ _ h
+wants s e h = rw e (fields-wanted _ (s .word) _ _ (rw e at h))
 
-pub wants-first : (s : Site) → leavesOf s ≡ false → Names (firstRegister (instructionOf (s .word))) (wantOf s .first)
+pub wants-first : (s : Site) → s .opcode ≡ opcodeOf (s .word) → leavesOf s ≡ false → Low (firstRegister (instructionOf (s .word)))
+    → Names (firstRegister (instructionOf (s .word))) (wantOf s .first)
 unfolding wantOf
-wants-first s h = wants s h .0
+wants-first s e h l =
+    modulo-16 (firstRegister (instructionOf (s .word))) (firstOf (s .opcode) (s .word)) l (wants s e h .0)
 
-pub wants-second : (s : Site) → leavesOf s ≡ false → Names (secondRegister (instructionOf (s .word))) (wantOf s .second)
+pub wants-second : (s : Site) → s .opcode ≡ opcodeOf (s .word) → leavesOf s ≡ false → Low (secondRegister (instructionOf (s .word)))
+    → Names (secondRegister (instructionOf (s .word))) (wantOf s .second)
 unfolding wantOf
-wants-second s h = wants s h .1
+wants-second s e h l =
+    modulo-16 (secondRegister (instructionOf (s .word))) (secondOf (s .opcode) (s .word)) l (wants s e h .1)
 
 -- in one: the values of the registers read
-pub decided-wanted : (p : Program) (s : State) (f : Frame) (t : Site) → leavesOf t ≡ false
+pub decided-wanted : (p : Program) (s : State) (f : Frame) (t : Site) → t .opcode ≡ opcodeOf (t .word) → leavesOf t ≡ false
+    → Low (firstRegister (instructionOf (t .word))) → Low (secondRegister (instructionOf (t .word)))
     → decided p (register f (wantOf t .first)) (register f (wantOf t .second)) (f .result) (classOf s (register f (wantOf t .first))) (instructionOf (t .word))
     ≡ decide p s f (instructionOf (t .word))
-decided-wanted p s f t h =
-    named p s f (instructionOf (t .word)) (wantOf t .first) (wantOf t .second) (wants-first t h) (wants-second t h)
+decided-wanted p s f t e h l m =
+    named p s f (instructionOf (t .word)) (wantOf t .first) (wantOf t .second) (wants-first t e h l) (wants-second t e h m)

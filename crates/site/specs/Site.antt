@@ -34,11 +34,12 @@ firstOf o w = pick (eqb o 4) (aOf w) (pick (eqb o 11) (aOf w) (pick (eqb o 20) (
 abbrev pub secondOf : ℕ → ℕ → ℕ
 secondOf o w = pick (eqb o 4) (bOf w) (pick (eqb o 9) (aOf w) (cOf w))
 
+-- a register's number is below 16
 unfoldable pub wantOf : Site → Want
 wantOf s =
     record {
-      first = firstOf (opcodeOf (s .word)) (s .word);
-      second = secondOf (opcodeOf (s .word)) (s .word);
+      first = firstOf (s .opcode) (s .word) % 16;
+      second = secondOf (s .opcode) (s .word) % 16;
       field = cOf (s .word);
       fixed = bOf (s .word);
       none = zeroValue;
@@ -47,14 +48,14 @@ wantOf s =
 
 -- instance-of and check-cast
 abbrev pub isClass : Site → Bool
-isClass s = eqb (opcodeOf (s .word)) 19 || eqb (opcodeOf (s .word)) 20
+isClass s = eqb (s .opcode) 19 || eqb (s .opcode) 20
 
 -- instructions that do not stay in their frame: new-instance, calls, returns, throw
 abbrev pub leavesBy : ℕ → Bool
 leavesBy o = eqb o 7 || (eqb o 12 || (eqb o 13 || (eqb o 16 || (eqb o 17 || eqb o 18))))
 
 abbrev pub leavesOf : Site → Bool
-leavesOf s = leavesBy (opcodeOf (s .word))
+leavesOf s = leavesBy (s .opcode)
 
 abbrev pub leftAt : Site → Gone
 leftAt s = record { next = s .pc; how = Leaves }

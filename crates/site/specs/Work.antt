@@ -36,26 +36,44 @@ goesTo to how =
       cell = 16;
       fixed = nowhere;
       gone = record { next = to; how = how };
+      address = to;
     }
 
 abbrev pub wrote : ℕ → ℕ → Value → Work
 wrote pc a v =
     record {
-      to = a;
+      to = a % 16;
       value = v;
       object = nowhere;
       cell = 16;
       fixed = nowhere;
       gone = record { next = pc + 1; how = Went };
+      address = pc + 1;
     }
 
 abbrev pub storedIn : ℕ → ℕ → ℕ → Value → Work
 storedIn pc o x v =
-    record { to = 16; value = v; object = o; cell = x; fixed = nowhere; gone = record { next = pc + 1; how = Went } }
+    record {
+      to = 16;
+      value = v;
+      object = o;
+      cell = x;
+      fixed = nowhere;
+      gone = record { next = pc + 1; how = Went };
+      address = pc + 1;
+    }
 
 abbrev pub keptIn : ℕ → ℕ → Value → Work
 keptIn pc x v =
-    record { to = 16; value = v; object = nowhere; cell = 16; fixed = x; gone = record { next = pc + 1; how = Went } }
+    record {
+      to = 16;
+      value = v;
+      object = nowhere;
+      cell = 16;
+      fixed = x;
+      gone = record { next = pc + 1; how = Went };
+      address = pc + 1;
+    }
 
 -- an effect at address pc; the cell that it loads holds v, the static g. What does not stay in its frame is left to do
 abbrev pub workOf : ℕ → Value → Value → Effect → Work

@@ -17,7 +17,7 @@ ghost use Rattle.machine.specs.declared.Value as machine;
 ghost use Rattle.cells.specs.Cells.{valueOf};
 ghost use Rattle.site.specs.Work.{goesTo, wrote, storedIn, keptIn, workOf, decided, signedIn, plainOf, classedOf, branchOf};
 
-fn goes_to(next: u32, how: How) -> Work
+pub fn goes_to(next: u32, how: How) -> Work
     ensures value { λ r. ⌜ r ≡ goesTo next how ⌝ }
 {
     Work {
@@ -26,27 +26,32 @@ fn goes_to(next: u32, how: How) -> Work
         object: 18446744073709551615,
         cell: 16,
         fixed: 18446744073709551615,
-        gone: Gone { next, how },
+        gone: Gone {
+            next: next as usize,
+            how,
+        },
+        address: next,
     }
 }
 
-fn wrote(pc: u8, to: u8, value: Value) -> Work
+pub fn wrote(pc: u8, to: u8, value: Value) -> Work
     ensures value { λ r. ⌜ r ≡ wrote pc to value ⌝ }
 {
     Work {
-        to: to as usize,
+        to: (to % 16) as usize,
         value,
         object: 18446744073709551615,
         cell: 16,
         fixed: 18446744073709551615,
         gone: Gone {
-            next: pc as u32 + 1,
+            next: pc as usize + 1,
             how: How::Went,
         },
+        address: pc as u32 + 1,
     }
 }
 
-fn stored(pc: u8, object: u32, cell: u8, value: Value) -> Work
+pub fn stored(pc: u8, object: u32, cell: u8, value: Value) -> Work
     ensures value { λ r. ⌜ r ≡ storedIn pc object cell value ⌝ }
 {
     Work {
@@ -56,13 +61,14 @@ fn stored(pc: u8, object: u32, cell: u8, value: Value) -> Work
         cell: cell as usize,
         fixed: 18446744073709551615,
         gone: Gone {
-            next: pc as u32 + 1,
+            next: pc as usize + 1,
             how: How::Went,
         },
+        address: pc as u32 + 1,
     }
 }
 
-fn kept(pc: u8, fixed: u8, value: Value) -> Work
+pub fn kept(pc: u8, fixed: u8, value: Value) -> Work
     ensures value { λ r. ⌜ r ≡ keptIn pc fixed value ⌝ }
 {
     Work {
@@ -72,9 +78,10 @@ fn kept(pc: u8, fixed: u8, value: Value) -> Work
         cell: 16,
         fixed: fixed as usize,
         gone: Gone {
-            next: pc as u32 + 1,
+            next: pc as usize + 1,
             how: How::Went,
         },
+        address: pc as u32 + 1,
     }
 }
 

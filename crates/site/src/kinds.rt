@@ -1,5 +1,6 @@
 // What each kind of instruction comes to, of two registers, the result, the class and a cell of the first one's object, and a
-// static.
+// static. What is likely stands first, so that it is compiled apart.
+use super::How;
 use super::Site;
 use super::Work;
 use super::effects;
@@ -45,7 +46,12 @@ pub fn branch_work(
     ensures value { λ r. ⌜ r ≡ decidedIn (programIn (now (t .entry))) s x y z k v g (branchOf (s .word)) ⌝ }
 {
     let e = effects::branch(s.word, x, y);
-    effects::work_of(s.pc, v, g, e)
+    match e {
+        Effect::Next => effects::goes_to(s.pc as u32 + 1, How::Went),
+        Effect::Jump { target } => effects::goes_to(target, How::Went),
+        Effect::Fail { fault } => effects::goes_to(s.pc as u32, How::Failed(fault)),
+        _ => effects::work_of(s.pc, v, g, e),
+    }
 }
 
 pub fn binop_work(
@@ -62,7 +68,11 @@ pub fn binop_work(
 {
     let o = instruction::operation_of(field_d(s.word));
     let e = decide::numbers::binop(field_a(s.word), o, cells::value_of(x), cells::value_of(y));
-    effects::work_of(s.pc, v, g, e)
+    match e {
+        Effect::Write { to, value } => effects::wrote(s.pc, to, cells::cell_of(value)),
+        Effect::Fail { fault } => effects::goes_to(s.pc as u32, How::Failed(fault)),
+        _ => effects::work_of(s.pc, v, g, e),
+    }
 }
 
 pub fn iget_work(
@@ -84,7 +94,11 @@ pub fn iget_work(
         field_c(s.word),
         cells::value_of(x),
     );
-    effects::work_of(s.pc, v, g, e)
+    match e {
+        Effect::Load { to, object, field } => effects::wrote(s.pc, to, v),
+        Effect::Fail { fault } => effects::goes_to(s.pc as u32, How::Failed(fault)),
+        _ => effects::work_of(s.pc, v, g, e),
+    }
 }
 
 pub fn iput_work(
@@ -101,7 +115,15 @@ pub fn iput_work(
 {
     let stored = cells::value_of(y);
     let e = decide::objects::put_field(t, k as usize, field_c(s.word), stored, cells::value_of(x));
-    effects::work_of(s.pc, v, g, e)
+    match e {
+        Effect::Store {
+            object,
+            field,
+            value,
+        } => effects::stored(s.pc, object, field, cells::cell_of(value)),
+        Effect::Fail { fault } => effects::goes_to(s.pc as u32, How::Failed(fault)),
+        _ => effects::work_of(s.pc, v, g, e),
+    }
 }
 
 pub fn sget_work(
@@ -116,11 +138,7 @@ pub fn sget_work(
 ) -> Work
     ensures value { λ r. ⌜ r ≡ decidedIn (programIn (now (t .entry))) s x y z k v g (Sget (aOf (s .word)) (bOf (s .word))) ⌝ }
 {
-    let e = Effect::LoadStatic {
-        to: field_a(s.word),
-        place: field_b(s.word),
-    };
-    effects::work_of(s.pc, v, g, e)
+    effects::wrote(s.pc, field_a(s.word), g)
 }
 
 pub fn sput_work(
@@ -135,11 +153,7 @@ pub fn sput_work(
 ) -> Work
     ensures value { λ r. ⌜ r ≡ decidedIn (programIn (now (t .entry))) s x y z k v g (Sput (aOf (s .word)) (bOf (s .word))) ⌝ }
 {
-    let e = Effect::StoreStatic {
-        place: field_b(s.word),
-        value: cells::value_of(x),
-    };
-    effects::work_of(s.pc, v, g, e)
+    effects::kept(s.pc, field_b(s.word), cells::normal(x))
 }
 
 pub fn class_work(
@@ -155,5 +169,9 @@ pub fn class_work(
     ensures value { λ r. ⌜ r ≡ decidedIn (programIn (now (t .entry))) s x y z k v g (classedOf (s .word)) ⌝ }
 {
     let e = effects::classed(t, s.word, x, k);
-    effects::work_of(s.pc, v, g, e)
+    match e {
+        Effect::Write { to, value } => effects::wrote(s.pc, to, cells::cell_of(value)),
+        Effect::Fail { fault } => effects::goes_to(s.pc as u32, How::Failed(fault)),
+        _ => effects::work_of(s.pc, v, g, e),
+    }
 }

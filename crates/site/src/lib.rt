@@ -17,11 +17,12 @@ ghost use mathlib.Core.Path.{_≡_};
 ghost use lib.Dec.{eqb};
 ghost use Rattle.site.specs.Site.{opcodeOf, aOf, bOf, cOf, dOf, firstOf, secondOf, wantOf, isClass, leavesOf, leftAt};
 
-// Where an instruction stands: frame `top`, its address, its word.
+// Where an instruction stands: frame `top`, its address, its word, its opcode.
 pub struct Site {
     pub top: usize,
     pub pc: u8,
     pub word: u64,
+    pub opcode: u8,
 }
 
 // How an instruction ends: the frame goes to another address, the instruction is one that does not stay in its frame, or a fault.
@@ -32,7 +33,7 @@ pub enum How {
 }
 
 pub struct Gone {
-    pub next: u32,
+    pub next: usize,
     pub how: How,
 }
 
@@ -46,7 +47,8 @@ pub struct Want {
     pub class: u32,
 }
 
-// What is written: a value to a register, to a cell of an object or to a static. Places past the end are nowhere.
+// What is written: a value to a register, to a cell of an object or to a static, and the frame's address. Places past the end are
+// nowhere.
 pub struct Work {
     pub to: usize,
     pub value: Value,
@@ -54,6 +56,7 @@ pub struct Work {
     pub cell: usize,
     pub fixed: usize,
     pub gone: Gone,
+    pub address: u32,
 }
 
 pub fn opcode(w: u64) -> u8
@@ -113,14 +116,14 @@ fn second_of(o: u8, w: u64) -> u8
     field_c(w)
 }
 
-// Which values the instruction looks at.
+// Which values the instruction looks at. A register's number is below 16: so no test of it is compiled.
 pub fn wanted(s: Site) -> Want
     ensures value { λ r. ⌜ r ≡ wantOf s ⌝ }
 {
-    let o = opcode(s.word);
+    let o = s.opcode;
     Want {
-        first: first_of(o, s.word) as usize,
-        second: second_of(o, s.word) as usize,
+        first: (first_of(o, s.word) % 16) as usize,
+        second: (second_of(o, s.word) % 16) as usize,
         field: field_c(s.word) as usize,
         fixed: field_b(s.word) as usize,
         none: cells::zero_value(),
@@ -129,45 +132,45 @@ pub fn wanted(s: Site) -> Want
 }
 
 pub fn is_branch(s: Site) -> bool
-    ensures value { λ r. ⌜ r ≡ eqb (opcodeOf (s .word)) 4 ⌝ }
+    ensures value { λ r. ⌜ r ≡ eqb (s .opcode) 4 ⌝ }
 {
-    opcode(s.word) == 4
+    s.opcode == 4
 }
 
 pub fn is_binop(s: Site) -> bool
-    ensures value { λ r. ⌜ r ≡ eqb (opcodeOf (s .word)) 5 ⌝ }
+    ensures value { λ r. ⌜ r ≡ eqb (s .opcode) 5 ⌝ }
 {
-    opcode(s.word) == 5
+    s.opcode == 5
 }
 
 pub fn is_iget(s: Site) -> bool
-    ensures value { λ r. ⌜ r ≡ eqb (opcodeOf (s .word)) 8 ⌝ }
+    ensures value { λ r. ⌜ r ≡ eqb (s .opcode) 8 ⌝ }
 {
-    opcode(s.word) == 8
+    s.opcode == 8
 }
 
 pub fn is_iput(s: Site) -> bool
-    ensures value { λ r. ⌜ r ≡ eqb (opcodeOf (s .word)) 9 ⌝ }
+    ensures value { λ r. ⌜ r ≡ eqb (s .opcode) 9 ⌝ }
 {
-    opcode(s.word) == 9
+    s.opcode == 9
 }
 
 pub fn is_sget(s: Site) -> bool
-    ensures value { λ r. ⌜ r ≡ eqb (opcodeOf (s .word)) 10 ⌝ }
+    ensures value { λ r. ⌜ r ≡ eqb (s .opcode) 10 ⌝ }
 {
-    opcode(s.word) == 10
+    s.opcode == 10
 }
 
 pub fn is_sput(s: Site) -> bool
-    ensures value { λ r. ⌜ r ≡ eqb (opcodeOf (s .word)) 11 ⌝ }
+    ensures value { λ r. ⌜ r ≡ eqb (s .opcode) 11 ⌝ }
 {
-    opcode(s.word) == 11
+    s.opcode == 11
 }
 
 pub fn is_class(s: Site) -> bool
     ensures value { λ r. ⌜ r ≡ isClass s ⌝ }
 {
-    let o = opcode(s.word);
+    let o = s.opcode;
     if o == 19 {
         return true;
     }
@@ -178,7 +181,7 @@ pub fn is_class(s: Site) -> bool
 pub fn leaves(s: Site) -> bool
     ensures value { λ r. ⌜ r ≡ leavesOf s ⌝ }
 {
-    let o = opcode(s.word);
+    let o = s.opcode;
     if o == 7 {
         return true;
     }
@@ -201,7 +204,7 @@ pub fn left(s: Site) -> Gone
     ensures value { λ r. ⌜ r ≡ leftAt s ⌝ }
 {
     Gone {
-        next: s.pc as u32,
+        next: s.pc as usize,
         how: How::Leaves,
     }
 }

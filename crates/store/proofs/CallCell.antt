@@ -1,4 +1,4 @@
--- Calls of `Cell.antt`'s two functions, from a caller that has a `&mut [S]` and goes on using it, by `Call.antt`'s `share` and `lend`.
+-- Calls of `CellCode.antt`'s two functions, from a caller that has a `&mut [S]` and goes on using it, by `Call.antt`'s `share` and `lend`.
 --     At, call-at, call-at-last      [own (the `&κ mut [S]` ys); [κ]_q; Γ]   `d = at(&*xs, i, j, c)`       leaves the context as it was, with d's machine value that of ys[i].field[j], or of c
 --     Put, call-put, call-put-last   [own (the `&κ mut [S]` ys); [κ]_q; Γ]   `d = put(&mut *xs, i, j, c)`  leaves the slice at ys with c at ys[i].field[j]
 -- Assumes `Given`.

@@ -3,6 +3,9 @@ pub mod Elem
 pub mod Slot
 pub mod Field
 pub mod Cell
+pub mod CellCode
+pub mod CellAt
+pub mod CellPut
 pub mod Call
 pub mod CallField
 pub mod CallCell

@@ -46,13 +46,13 @@ abbrev pub Shifting : Type 0
 Shifting = List ℕ → At → ℕ → ℕ → ℕ → Value → ℕ → Shift
 
 abbrev pub methodIn : Lent → At → ℕ
-methodIn m h = getD (map methodOf (m .frames)) (lookOf h .top) (lookOf h .zero)
+methodIn m h = getD (map methodOf (m .frames)) (lookOf h .top) (lookOf h .missing)
 
 abbrev pub addressIn : Lent → At → ℕ
-addressIn m h = getD (map addressOf (m .frames)) (lookOf h .top) (lookOf h .zero)
+addressIn m h = getD (map addressOf (m .frames)) (lookOf h .top) (lookOf h .missing)
 
 abbrev pub belowIn : Lent → At → ℕ
-belowIn m h = getD (map addressOf (m .frames)) (lookOf h .below) (lookOf h .zero)
+belowIn m h = getD (map addressOf (m .frames)) (lookOf h .below) (lookOf h .missing)
 
 abbrev pub valueIn : Lent → At → Value
 valueIn m h = getD (registersOf (getD (m .frames) (lookOf h .top) absentFrame)) (lookOf h .first) (lookOf h .none)

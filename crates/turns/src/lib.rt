@@ -54,9 +54,9 @@ fn make(
     ensures after { λ r. ⌜ done r (lent (now (frames .exit)) (now (objects .exit)) (now (statics .exit))) ≡ makeDone (now (t .entry)) (lent (now (frames .entry)) (now (objects .entry)) (now (statics .entry))) h ⌝ }
 {
     let w = shift::looked(h);
-    let m = store::method_at(frames, w.top, w.zero);
-    let a = store::address_at(frames, w.top, w.zero);
-    let b = store::address_at(frames, w.below, w.zero);
+    let m = store::method_at(frames, w.top, w.missing);
+    let a = store::address_at(frames, w.top, w.missing);
+    let b = store::address_at(frames, w.below, w.missing);
     let x = store::register_at(frames, w.top, w.first, w.none);
     let i = shift::thrown_at(h, x);
     let c = store::class_at(objects, i, w.class);
@@ -83,9 +83,9 @@ fn call_static(
     ensures after { λ r. ⌜ done r (lent (now (frames .exit)) (now (objects .exit)) (now (statics .exit))) ≡ staticDone (now (t .entry)) (lent (now (frames .entry)) (now (objects .entry)) (now (statics .entry))) h ⌝ }
 {
     let w = shift::looked(h);
-    let m = store::method_at(frames, w.top, w.zero);
-    let a = store::address_at(frames, w.top, w.zero);
-    let b = store::address_at(frames, w.below, w.zero);
+    let m = store::method_at(frames, w.top, w.missing);
+    let a = store::address_at(frames, w.top, w.missing);
+    let b = store::address_at(frames, w.below, w.missing);
     let x = store::register_at(frames, w.top, w.first, w.none);
     let i = shift::thrown_at(h, x);
     let c = store::class_at(objects, i, w.class);
@@ -112,9 +112,9 @@ fn call_virtual(
     ensures after { λ r. ⌜ done r (lent (now (frames .exit)) (now (objects .exit)) (now (statics .exit))) ≡ virtualDone (now (t .entry)) (lent (now (frames .entry)) (now (objects .entry)) (now (statics .entry))) h ⌝ }
 {
     let w = shift::looked(h);
-    let m = store::method_at(frames, w.top, w.zero);
-    let a = store::address_at(frames, w.top, w.zero);
-    let b = store::address_at(frames, w.below, w.zero);
+    let m = store::method_at(frames, w.top, w.missing);
+    let a = store::address_at(frames, w.top, w.missing);
+    let b = store::address_at(frames, w.below, w.missing);
     let x = store::register_at(frames, w.top, w.first, w.none);
     let i = shift::thrown_at(h, x);
     let c = store::class_at(objects, i, w.class);
@@ -141,9 +141,9 @@ fn leave(
     ensures after { λ r. ⌜ done r (lent (now (frames .exit)) (now (objects .exit)) (now (statics .exit))) ≡ leaveDone (now (t .entry)) (lent (now (frames .entry)) (now (objects .entry)) (now (statics .entry))) h ⌝ }
 {
     let w = shift::looked(h);
-    let m = store::method_at(frames, w.top, w.zero);
-    let a = store::address_at(frames, w.top, w.zero);
-    let b = store::address_at(frames, w.below, w.zero);
+    let m = store::method_at(frames, w.top, w.missing);
+    let a = store::address_at(frames, w.top, w.missing);
+    let b = store::address_at(frames, w.below, w.missing);
     let x = store::register_at(frames, w.top, w.first, w.none);
     let i = shift::thrown_at(h, x);
     let c = store::class_at(objects, i, w.class);
@@ -170,9 +170,9 @@ fn raise(
     ensures after { λ r. ⌜ done r (lent (now (frames .exit)) (now (objects .exit)) (now (statics .exit))) ≡ throwDone (now (t .entry)) (lent (now (frames .entry)) (now (objects .entry)) (now (statics .entry))) h ⌝ }
 {
     let w = shift::looked(h);
-    let m = store::method_at(frames, w.top, w.zero);
-    let a = store::address_at(frames, w.top, w.zero);
-    let b = store::address_at(frames, w.below, w.zero);
+    let m = store::method_at(frames, w.top, w.missing);
+    let a = store::address_at(frames, w.top, w.missing);
+    let b = store::address_at(frames, w.below, w.missing);
     let x = store::register_at(frames, w.top, w.first, w.none);
     let i = shift::thrown_at(h, x);
     let c = store::class_at(objects, i, w.class);
@@ -199,9 +199,9 @@ pub fn unwind(
     ensures after { λ r. ⌜ done r (lent (now (frames .exit)) (now (objects .exit)) (now (statics .exit))) ≡ unwindDone (now (t .entry)) (lent (now (frames .entry)) (now (objects .entry)) (now (statics .entry))) h ⌝ }
 {
     let w = shift::looked(h);
-    let m = store::method_at(frames, w.top, w.zero);
-    let a = store::address_at(frames, w.top, w.zero);
-    let b = store::address_at(frames, w.below, w.zero);
+    let m = store::method_at(frames, w.top, w.missing);
+    let a = store::address_at(frames, w.top, w.missing);
+    let b = store::address_at(frames, w.below, w.missing);
     let x = store::register_at(frames, w.top, w.first, w.none);
     let i = shift::thrown_at(h, x);
     let c = store::class_at(objects, i, w.class);

@@ -107,7 +107,7 @@ module _ (#effect : Name) where
     outlives = [];
     params = 5;
     locals = local Go′.mir valueLocal ∷ local tabTy valueLocal ∷ local frTy valueLocal ∷ local obTy valueLocal ∷ local stTy valueLocal ∷ local Si′.mir valueLocal ∷ local Wa′.mir valueLocal ∷ local Vl′.mir valueLocal ∷ local Vl′.mir valueLocal ∷ local Vl′.mir valueLocal ∷ local (tyInt w64) valueLocal ∷ local (tyInt w32) valueLocal ∷ local Vl′.mir valueLocal ∷ local Vl′.mir valueLocal ∷ local Wo′.mir valueLocal ∷ local (tyRef erased imm (pointee (F.the-row .written))) valueLocal ∷ local (sliceTy (tyRef erased imm (pointee (F.the-row .written)))) valueLocal ∷ local (tyRef erased imm (pointee (F.the-row .written))) valueLocal ∷ local (sliceTy (tyRef erased imm (pointee (F.the-row .written)))) valueLocal ∷ local (tyRef erased imm (pointee (F.the-row .written))) valueLocal ∷ local (sliceTy (tyRef erased imm (pointee (F.the-row .written)))) valueLocal ∷ local (tyRef erased imm (pointee (O.the-row .written))) valueLocal ∷ local (sliceTy (tyRef erased imm (pointee (O.the-row .written)))) valueLocal ∷ local (tyRef erased imm (pointee (O.the-row .written))) valueLocal ∷ local (sliceTy (tyRef erased imm (pointee (O.the-row .written)))) valueLocal ∷ local (tyRef erased imm (pointee (Vl.the-row .written))) valueLocal ∷ local (sliceTy (tyRef erased imm (pointee (Vl.the-row .written)))) valueLocal ∷ local tyUnit valueLocal ∷ local (tyRef erased mut (pointee (F.the-row .written))) valueLocal ∷ local (sliceTy (tyRef erased mut (pointee (F.the-row .written)))) valueLocal ∷ local (tyRef erased mut (pointee (O.the-row .written))) valueLocal ∷ local (sliceTy (tyRef erased mut (pointee (O.the-row .written)))) valueLocal ∷ local (tyRef erased mut (pointee (Vl.the-row .written))) valueLocal ∷ local (sliceTy (tyRef erased mut (pointee (Vl.the-row .written)))) valueLocal ∷ local (tyRef erased mut (pointee (F.the-row .written))) valueLocal ∷ local (sliceTy (tyRef erased mut (pointee (F.the-row .written)))) valueLocal ∷ [];
-    body = seq (call #wanted (copy (place 5 ([])) ∷ []) (place 6 ([]))) (seq (assign (place 15 ([])) (addrOf (place 2 (field 0 ∷ deref F′.mir ∷ [])))) (seq (assign (place 16 ([])) (aggregate (copy (place 15 ([])) ∷ copy (place 2 (field 1 ∷ [])) ∷ []))) (seq (call #register-at (copy (place 16 ([])) ∷ copy (place 5 (field 0 ∷ [])) ∷ copy (place 6 (field 0 ∷ [])) ∷ copy (place 6 (field 4 ∷ [])) ∷ []) (place 7 ([]))) (seq (assign (place 17 ([])) (addrOf (place 2 (field 0 ∷ deref F′.mir ∷ [])))) (seq (assign (place 18 ([])) (aggregate (copy (place 17 ([])) ∷ copy (place 2 (field 1 ∷ [])) ∷ []))) (seq (call #register-at (copy (place 18 ([])) ∷ copy (place 5 (field 0 ∷ [])) ∷ copy (place 6 (field 1 ∷ [])) ∷ copy (place 6 (field 4 ∷ [])) ∷ []) (place 8 ([]))) (seq (assign (place 19 ([])) (addrOf (place 2 (field 0 ∷ deref F′.mir ∷ [])))) (seq (assign (place 20 ([])) (aggregate (copy (place 19 ([])) ∷ copy (place 2 (field 1 ∷ [])) ∷ []))) (seq (call #result-at (copy (place 20 ([])) ∷ copy (place 5 (field 0 ∷ [])) ∷ copy (place 6 (field 4 ∷ [])) ∷ []) (place 9 ([]))) (seq (call #object-place (copy (place 7 ([])) ∷ []) (place 10 ([]))) (seq (assign (place 21 ([])) (addrOf (place 3 (field 0 ∷ deref O′.mir ∷ [])))) (seq (assign (place 22 ([])) (aggregate (copy (place 21 ([])) ∷ copy (place 3 (field 1 ∷ [])) ∷ []))) (seq (call #class-at (copy (place 22 ([])) ∷ copy (place 10 ([])) ∷ copy (place 6 (field 5 ∷ [])) ∷ []) (place 11 ([]))) (seq (assign (place 23 ([])) (addrOf (place 3 (field 0 ∷ deref O′.mir ∷ [])))) (seq (assign (place 24 ([])) (aggregate (copy (place 23 ([])) ∷ copy (place 3 (field 1 ∷ [])) ∷ []))) (seq (call #cell-at (copy (place 24 ([])) ∷ copy (place 10 ([])) ∷ copy (place 6 (field 2 ∷ [])) ∷ copy (place 6 (field 4 ∷ [])) ∷ []) (place 12 ([]))) (seq (assign (place 25 ([])) (addrOf (place 4 (field 0 ∷ deref Vl′.mir ∷ [])))) (seq (assign (place 26 ([])) (aggregate (copy (place 25 ([])) ∷ copy (place 4 (field 1 ∷ [])) ∷ []))) (seq (call #static-at (copy (place 26 ([])) ∷ copy (place 6 (field 3 ∷ [])) ∷ copy (place 6 (field 4 ∷ [])) ∷ []) (place 13 ([]))) (seq (call #effect (copy (place 1 ([])) ∷ copy (place 5 ([])) ∷ copy (place 7 ([])) ∷ copy (place 8 ([])) ∷ copy (place 9 ([])) ∷ copy (place 11 ([])) ∷ copy (place 12 ([])) ∷ copy (place 13 ([])) ∷ []) (place 14 ([]))) (seq (assign (place 28 ([])) (addrOf (place 2 (field 0 ∷ deref F′.mir ∷ [])))) (seq (assign (place 29 ([])) (aggregate (copy (place 28 ([])) ∷ copy (place 2 (field 1 ∷ [])) ∷ []))) (seq (call #put-register (copy (place 29 ([])) ∷ copy (place 5 (field 0 ∷ [])) ∷ copy (place 14 (field 0 ∷ [])) ∷ copy (place 14 (field 1 ∷ [])) ∷ []) (place 27 ([]))) (seq (assign (place 30 ([])) (addrOf (place 3 (field 0 ∷ deref O′.mir ∷ [])))) (seq (assign (place 31 ([])) (aggregate (copy (place 30 ([])) ∷ copy (place 3 (field 1 ∷ [])) ∷ []))) (seq (call #put-cell (copy (place 31 ([])) ∷ copy (place 14 (field 2 ∷ [])) ∷ copy (place 14 (field 3 ∷ [])) ∷ copy (place 14 (field 1 ∷ [])) ∷ []) (place 27 ([]))) (seq (assign (place 32 ([])) (addrOf (place 4 (field 0 ∷ deref Vl′.mir ∷ [])))) (seq (assign (place 33 ([])) (aggregate (copy (place 32 ([])) ∷ copy (place 4 (field 1 ∷ [])) ∷ []))) (seq (call #put-static (copy (place 33 ([])) ∷ copy (place 14 (field 4 ∷ [])) ∷ copy (place 14 (field 1 ∷ [])) ∷ []) (place 27 ([]))) (seq (assign (place 34 ([])) (addrOf (place 2 (field 0 ∷ deref F′.mir ∷ [])))) (seq (assign (place 35 ([])) (aggregate (copy (place 34 ([])) ∷ copy (place 2 (field 1 ∷ [])) ∷ []))) (seq (call #put-address (copy (place 35 ([])) ∷ copy (place 5 (field 0 ∷ [])) ∷ copy (place 14 (field 5 ∷ field 0 ∷ [])) ∷ []) (place 27 ([]))) (seq (assign (place 0 ([])) (rvOpd (copy (place 14 (field 5 ∷ []))))) (return))))))))))))))))))))))))))))))))));
+    body = seq (call #wanted (copy (place 5 ([])) ∷ []) (place 6 ([]))) (seq (assign (place 15 ([])) (addrOf (place 2 (field 0 ∷ deref F′.mir ∷ [])))) (seq (assign (place 16 ([])) (aggregate (copy (place 15 ([])) ∷ copy (place 2 (field 1 ∷ [])) ∷ []))) (seq (call #register-at (copy (place 16 ([])) ∷ copy (place 5 (field 0 ∷ [])) ∷ copy (place 6 (field 0 ∷ [])) ∷ copy (place 6 (field 4 ∷ [])) ∷ []) (place 7 ([]))) (seq (assign (place 17 ([])) (addrOf (place 2 (field 0 ∷ deref F′.mir ∷ [])))) (seq (assign (place 18 ([])) (aggregate (copy (place 17 ([])) ∷ copy (place 2 (field 1 ∷ [])) ∷ []))) (seq (call #register-at (copy (place 18 ([])) ∷ copy (place 5 (field 0 ∷ [])) ∷ copy (place 6 (field 1 ∷ [])) ∷ copy (place 6 (field 4 ∷ [])) ∷ []) (place 8 ([]))) (seq (assign (place 19 ([])) (addrOf (place 2 (field 0 ∷ deref F′.mir ∷ [])))) (seq (assign (place 20 ([])) (aggregate (copy (place 19 ([])) ∷ copy (place 2 (field 1 ∷ [])) ∷ []))) (seq (call #result-at (copy (place 20 ([])) ∷ copy (place 5 (field 0 ∷ [])) ∷ copy (place 6 (field 4 ∷ [])) ∷ []) (place 9 ([]))) (seq (call #object-place (copy (place 7 ([])) ∷ []) (place 10 ([]))) (seq (assign (place 21 ([])) (addrOf (place 3 (field 0 ∷ deref O′.mir ∷ [])))) (seq (assign (place 22 ([])) (aggregate (copy (place 21 ([])) ∷ copy (place 3 (field 1 ∷ [])) ∷ []))) (seq (call #class-at (copy (place 22 ([])) ∷ copy (place 10 ([])) ∷ copy (place 6 (field 5 ∷ [])) ∷ []) (place 11 ([]))) (seq (assign (place 23 ([])) (addrOf (place 3 (field 0 ∷ deref O′.mir ∷ [])))) (seq (assign (place 24 ([])) (aggregate (copy (place 23 ([])) ∷ copy (place 3 (field 1 ∷ [])) ∷ []))) (seq (call #cell-at (copy (place 24 ([])) ∷ copy (place 10 ([])) ∷ copy (place 6 (field 2 ∷ [])) ∷ copy (place 6 (field 4 ∷ [])) ∷ []) (place 12 ([]))) (seq (assign (place 25 ([])) (addrOf (place 4 (field 0 ∷ deref Vl′.mir ∷ [])))) (seq (assign (place 26 ([])) (aggregate (copy (place 25 ([])) ∷ copy (place 4 (field 1 ∷ [])) ∷ []))) (seq (call #static-at (copy (place 26 ([])) ∷ copy (place 6 (field 3 ∷ [])) ∷ copy (place 6 (field 4 ∷ [])) ∷ []) (place 13 ([]))) (seq (call #effect (copy (place 1 ([])) ∷ copy (place 5 ([])) ∷ copy (place 7 ([])) ∷ copy (place 8 ([])) ∷ copy (place 9 ([])) ∷ copy (place 11 ([])) ∷ copy (place 12 ([])) ∷ copy (place 13 ([])) ∷ []) (place 14 ([]))) (seq (assign (place 28 ([])) (addrOf (place 2 (field 0 ∷ deref F′.mir ∷ [])))) (seq (assign (place 29 ([])) (aggregate (copy (place 28 ([])) ∷ copy (place 2 (field 1 ∷ [])) ∷ []))) (seq (call #put-register (copy (place 29 ([])) ∷ copy (place 5 (field 0 ∷ [])) ∷ copy (place 14 (field 0 ∷ [])) ∷ copy (place 14 (field 1 ∷ [])) ∷ []) (place 27 ([]))) (seq (assign (place 30 ([])) (addrOf (place 3 (field 0 ∷ deref O′.mir ∷ [])))) (seq (assign (place 31 ([])) (aggregate (copy (place 30 ([])) ∷ copy (place 3 (field 1 ∷ [])) ∷ []))) (seq (call #put-cell (copy (place 31 ([])) ∷ copy (place 14 (field 2 ∷ [])) ∷ copy (place 14 (field 3 ∷ [])) ∷ copy (place 14 (field 1 ∷ [])) ∷ []) (place 27 ([]))) (seq (assign (place 32 ([])) (addrOf (place 4 (field 0 ∷ deref Vl′.mir ∷ [])))) (seq (assign (place 33 ([])) (aggregate (copy (place 32 ([])) ∷ copy (place 4 (field 1 ∷ [])) ∷ []))) (seq (call #put-static (copy (place 33 ([])) ∷ copy (place 14 (field 4 ∷ [])) ∷ copy (place 14 (field 1 ∷ [])) ∷ []) (place 27 ([]))) (seq (assign (place 34 ([])) (addrOf (place 2 (field 0 ∷ deref F′.mir ∷ [])))) (seq (assign (place 35 ([])) (aggregate (copy (place 34 ([])) ∷ copy (place 2 (field 1 ∷ [])) ∷ []))) (seq (call #put-address (copy (place 35 ([])) ∷ copy (place 5 (field 0 ∷ [])) ∷ copy (place 14 (field 6 ∷ [])) ∷ []) (place 27 ([]))) (seq (assign (place 0 ([])) (rvOpd (copy (place 14 (field 5 ∷ []))))) (return))))))))))))))))))))))))))))))))));
   }
 
 module _ (effect : Working) where

@@ -5,7 +5,7 @@ use Prim.Native.Nat.{ℕ}
 use lib.Dec.{eqb}
 use lib.ListN.{length-set}
 use Rattle.site.specs.declared.Site.{Site}
-use Rattle.site.specs.Site.{opcodeOf, isClass, leavesOf, leftAt}
+use Rattle.site.specs.Site.{isClass, leavesOf, leftAt}
 use Rattle.drive.specs.Models.{Lent, done}
 use Rattle.drive.proofs.Driver.{Same}
 use Rattle.drive.proofs.Keeps.{same-self, pick-keeps}
@@ -27,19 +27,19 @@ pub leaving-keeps : (t : List ℕ) (m : Lent) (s : Site) → Same m (fromLeaving
 leaving-keeps t m s = pick-keeps (leavesOf s) m (done (leftAt s) m) (fromClass t m s) (same-self m) (class-keeps t m s)
 
 pub sput-keeps : (t : List ℕ) (m : Lent) (s : Site) → Same m (fromSput t m s .memory)
-sput-keeps t m s = pick-keeps (eqb (opcodeOf (s .word)) 11) m (sputDone t m s) (fromLeaving t m s) (worked-keeps sputWorking t m s) (leaving-keeps t m s)
+sput-keeps t m s = pick-keeps (eqb (s .opcode) 11) m (sputDone t m s) (fromLeaving t m s) (worked-keeps sputWorking t m s) (leaving-keeps t m s)
 
 pub sget-keeps : (t : List ℕ) (m : Lent) (s : Site) → Same m (fromSget t m s .memory)
-sget-keeps t m s = pick-keeps (eqb (opcodeOf (s .word)) 10) m (sgetDone t m s) (fromSput t m s) (worked-keeps sgetWorking t m s) (sput-keeps t m s)
+sget-keeps t m s = pick-keeps (eqb (s .opcode) 10) m (sgetDone t m s) (fromSput t m s) (worked-keeps sgetWorking t m s) (sput-keeps t m s)
 
 pub iput-keeps : (t : List ℕ) (m : Lent) (s : Site) → Same m (fromIput t m s .memory)
-iput-keeps t m s = pick-keeps (eqb (opcodeOf (s .word)) 9) m (iputDone t m s) (fromSget t m s) (worked-keeps iputWorking t m s) (sget-keeps t m s)
+iput-keeps t m s = pick-keeps (eqb (s .opcode) 9) m (iputDone t m s) (fromSget t m s) (worked-keeps iputWorking t m s) (sget-keeps t m s)
 
 pub iget-keeps : (t : List ℕ) (m : Lent) (s : Site) → Same m (fromIget t m s .memory)
-iget-keeps t m s = pick-keeps (eqb (opcodeOf (s .word)) 8) m (igetDone t m s) (fromIput t m s) (worked-keeps igetWorking t m s) (iput-keeps t m s)
+iget-keeps t m s = pick-keeps (eqb (s .opcode) 8) m (igetDone t m s) (fromIput t m s) (worked-keeps igetWorking t m s) (iput-keeps t m s)
 
 pub branch-keeps : (t : List ℕ) (m : Lent) (s : Site) → Same m (fromBranch t m s .memory)
-branch-keeps t m s = pick-keeps (eqb (opcodeOf (s .word)) 4) m (branchDone t m s) (fromIget t m s) (worked-keeps branchWorking t m s) (iget-keeps t m s)
+branch-keeps t m s = pick-keeps (eqb (s .opcode) 4) m (branchDone t m s) (fromIget t m s) (worked-keeps branchWorking t m s) (iget-keeps t m s)
 
 pub perform-keeps : (t : List ℕ) (m : Lent) (s : Site) → Same m (performed t m s .memory)
-perform-keeps t m s = pick-keeps (eqb (opcodeOf (s .word)) 5) m (binopDone t m s) (fromBranch t m s) (worked-keeps binopWorking t m s) (branch-keeps t m s)
+perform-keeps t m s = pick-keeps (eqb (s .opcode) 5) m (binopDone t m s) (fromBranch t m s) (worked-keeps binopWorking t m s) (branch-keeps t m s)

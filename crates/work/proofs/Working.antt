@@ -126,10 +126,10 @@ module _ (effect : Working) (#effect : Name) {M : Type 1} (𝓤 : URA M) (H : He
     len-ss₁ = length-set (m .statics) (v₁₄ .fixed) (v₁₄ .value)
 
     abbrev fs₂ : List Frame
-    fs₂ = set fs₁ (p .top) (withAddress (getD fs₁ (p .top) absentFrame) ((v₁₄ .gone) .next))
+    fs₂ = set fs₁ (p .top) (withAddress (getD fs₁ (p .top) absentFrame) (v₁₄ .address))
 
     len-fs₂ : length fs₂ ≡ length fs₁
-    len-fs₂ = length-set fs₁ (p .top) (withAddress (getD fs₁ (p .top) absentFrame) ((v₁₄ .gone) .next))
+    len-fs₂ = length-set fs₁ (p .top) (withAddress (getD fs₁ (p .top) absentFrame) (v₁₄ .address))
 
     right : ends-with (v₁₄ .gone) (lent fs₂ os₁ ss₁) ≡ (worked effect) (now (x .t)) m p
     unfolding worked
@@ -235,7 +235,7 @@ module _ (effect : Working) (#effect : Name) {M : Type 1} (𝓤 : URA M) (H : He
           move ! (2 ∷ 3 ∷ 4 ∷ 5 ∷ 0 ∷ 1 ∷ 6 ∷ 7 ∷ []) $
           assigns ! (addr ! (from ! (fld ! refl (hop ! (look-in ! 74 (sub ! 0 refl (whole !))) (stop !))))) (from ! (stop !)) (init ! 10 refl (tt, tt)) $
           assigns ! (agg ! (and-then ! (load ! (from ! (stop !)) (look ! 10 refl)) (and-then ! (load ! (from ! (fld ! refl (stop !))) (look-in ! 74 (sub ! 1 refl (whole !)))) (no-more !)))) (from ! (stop !)) (init ! 8 refl (tt, (tt, (record { fits = rooms .frames .0 }, tt)))) $
-          cf.call-put F.the-type (UInt w32) (vint w32) addressOf withAddress absentFrame ! (uint-makes 𝓤 H A W w32) fm known-put-address (x .b₁) (x .o₁) (x .n₁) fs₁ (len-fs₁ ∙ (fits .frames)) (p .top) ((v₁₄ .gone) .next) (rooms .frames) ((LL.owed Si.the-type Si′.the-laws p _ p-is .0) .1) (LL.owed Go.the-type Go′.the-laws (v₁₄ .gone) _ (LL.owed Wo.the-type Wo′.the-laws v₁₄ _ (subst (Is Wo.the-row v₁₄) (LL.tells Wo.the-type Wo′.the-laws v₁₄ (w₉ ∷ []) is₉) is₉) .1 .1 .1 .1 .1 .0) .0) (λ I J. (and-then ! (load ! (from ! (stop !)) (look ! 8 refl)) (and-then ! (load ! (from ! (fld ! refl (stop !))) (look-in ! 68 (sub ! 0 refl (whole !)))) (and-then ! (load ! (from ! (fld ! refl (fld ! refl (stop !)))) (look-in ! 50 (sub ! 0 refl (sub ! 5 refl (whole !))))) (no-more !))))) $
+          cf.call-put F.the-type (UInt w32) (vint w32) addressOf withAddress absentFrame ! (uint-makes 𝓤 H A W w32) fm known-put-address (x .b₁) (x .o₁) (x .n₁) fs₁ (len-fs₁ ∙ (fits .frames)) (p .top) (v₁₄ .address) (rooms .frames) ((LL.owed Si.the-type Si′.the-laws p _ p-is .0) .1) (LL.owed Wo.the-type Wo′.the-laws v₁₄ _ (subst (Is Wo.the-row v₁₄) (LL.tells Wo.the-type Wo′.the-laws v₁₄ (w₉ ∷ []) is₉) is₉) .1 .1 .1 .1 .1 .1 .0) (λ I J. (and-then ! (load ! (from ! (stop !)) (look ! 8 refl)) (and-then ! (load ! (from ! (fld ! refl (stop !))) (look-in ! 68 (sub ! 0 refl (whole !)))) (and-then ! (load ! (from ! (fld ! refl (stop !))) (look-in ! 50 (sub ! 6 refl (whole !)))) (no-more !))))) $
           land ! (from ! (stop !)) (store ! 24 refl (tt, tt)) $
           assigns ! (of-opd ! (load ! (from ! (fld ! refl (stop !))) (look-in ! 50 (sub ! 5 refl (whole !))))) (from ! (stop !)) (init ! 78 refl (LL.lawful Go.the-type Go′.the-laws 𝓤 H A W .typed (v₁₄ .gone) _ (LL.owed Wo.the-type Wo′.the-laws v₁₄ _ (subst (Is Wo.the-row v₁₄) (LL.tells Wo.the-type Wo′.the-laws v₁₄ (w₉ ∷ []) is₉) is₉) .1 .1 .1 .1 .1 .0) .0)) $
           returns ! (look ! 78 refl) $

@@ -15,7 +15,7 @@ use Rattle.store.specs.Store.{absentFrame, absentObject, resultOf, registersOf,
 use Rattle.site.specs.declared.Site.{Site}
 use Rattle.site.specs.declared.Gone.{Gone}
 use Rattle.site.specs.declared.Work.{Work}
-use Rattle.site.specs.Site.{opcodeOf, aOf, bOf, cOf, dOf, wantOf, isClass, leavesOf, leftAt}
+use Rattle.site.specs.Site.{aOf, bOf, cOf, dOf, wantOf, isClass, leavesOf, leftAt}
 use Rattle.site.specs.Work.{decidedIn, plainOf, branchOf, classedOf}
 use Rattle.drive.specs.Models.{Lent, lent, Done, done}
 
@@ -54,7 +54,7 @@ movedFrames fs top a = set fs top (withAddress (getD fs top absentFrame) a)
 
 abbrev pub workedOn : Lent → ℕ → Work → Lent
 workedOn m top e =
-    lent (movedFrames (wroteFrames (m .frames) top e) top (e .gone .next))
+    lent (movedFrames (wroteFrames (m .frames) top e) top (e .address))
     (set (m .objects) (e .object) (withCell (getD (m .objects) (e .object) absentObject) (e .cell) (e .value)))
     (set (m .statics) (e .fixed) (e .value))
 
@@ -121,19 +121,19 @@ abbrev pub fromLeaving : List ℕ → Lent → Site → Done Gone
 fromLeaving t m s = pick (leavesOf s) (done (leftAt s) m) (fromClass t m s)
 
 abbrev pub fromSput : List ℕ → Lent → Site → Done Gone
-fromSput t m s = pick (eqb (opcodeOf (s .word)) 11) (sputDone t m s) (fromLeaving t m s)
+fromSput t m s = pick (eqb (s .opcode) 11) (sputDone t m s) (fromLeaving t m s)
 
 abbrev pub fromSget : List ℕ → Lent → Site → Done Gone
-fromSget t m s = pick (eqb (opcodeOf (s .word)) 10) (sgetDone t m s) (fromSput t m s)
+fromSget t m s = pick (eqb (s .opcode) 10) (sgetDone t m s) (fromSput t m s)
 
 abbrev pub fromIput : List ℕ → Lent → Site → Done Gone
-fromIput t m s = pick (eqb (opcodeOf (s .word)) 9) (iputDone t m s) (fromSget t m s)
+fromIput t m s = pick (eqb (s .opcode) 9) (iputDone t m s) (fromSget t m s)
 
 abbrev pub fromIget : List ℕ → Lent → Site → Done Gone
-fromIget t m s = pick (eqb (opcodeOf (s .word)) 8) (igetDone t m s) (fromIput t m s)
+fromIget t m s = pick (eqb (s .opcode) 8) (igetDone t m s) (fromIput t m s)
 
 abbrev pub fromBranch : List ℕ → Lent → Site → Done Gone
-fromBranch t m s = pick (eqb (opcodeOf (s .word)) 4) (branchDone t m s) (fromIget t m s)
+fromBranch t m s = pick (eqb (s .opcode) 4) (branchDone t m s) (fromIget t m s)
 
 abbrev pub performed : List ℕ → Lent → Site → Done Gone
-performed t m s = pick (eqb (opcodeOf (s .word)) 5) (binopDone t m s) (fromBranch t m s)
+performed t m s = pick (eqb (s .opcode) 5) (binopDone t m s) (fromBranch t m s)

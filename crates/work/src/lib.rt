@@ -31,7 +31,7 @@ fn binop(
     store::put_register(frames, s.top, e.to, e.value);
     store::put_cell(objects, e.object, e.cell, e.value);
     store::put_static(statics, e.fixed, e.value);
-    store::put_address(frames, s.top, e.gone.next);
+    store::put_address(frames, s.top, e.address);
     e.gone
 }
 
@@ -57,7 +57,7 @@ fn branch(
     store::put_register(frames, s.top, e.to, e.value);
     store::put_cell(objects, e.object, e.cell, e.value);
     store::put_static(statics, e.fixed, e.value);
-    store::put_address(frames, s.top, e.gone.next);
+    store::put_address(frames, s.top, e.address);
     e.gone
 }
 
@@ -83,7 +83,7 @@ fn get_field(
     store::put_register(frames, s.top, e.to, e.value);
     store::put_cell(objects, e.object, e.cell, e.value);
     store::put_static(statics, e.fixed, e.value);
-    store::put_address(frames, s.top, e.gone.next);
+    store::put_address(frames, s.top, e.address);
     e.gone
 }
 
@@ -109,7 +109,7 @@ fn put_field(
     store::put_register(frames, s.top, e.to, e.value);
     store::put_cell(objects, e.object, e.cell, e.value);
     store::put_static(statics, e.fixed, e.value);
-    store::put_address(frames, s.top, e.gone.next);
+    store::put_address(frames, s.top, e.address);
     e.gone
 }
 
@@ -135,7 +135,7 @@ fn get_static(
     store::put_register(frames, s.top, e.to, e.value);
     store::put_cell(objects, e.object, e.cell, e.value);
     store::put_static(statics, e.fixed, e.value);
-    store::put_address(frames, s.top, e.gone.next);
+    store::put_address(frames, s.top, e.address);
     e.gone
 }
 
@@ -161,7 +161,7 @@ fn store_static(
     store::put_register(frames, s.top, e.to, e.value);
     store::put_cell(objects, e.object, e.cell, e.value);
     store::put_static(statics, e.fixed, e.value);
-    store::put_address(frames, s.top, e.gone.next);
+    store::put_address(frames, s.top, e.address);
     e.gone
 }
 
@@ -187,7 +187,7 @@ fn classes(
     store::put_register(frames, s.top, e.to, e.value);
     store::put_cell(objects, e.object, e.cell, e.value);
     store::put_static(statics, e.fixed, e.value);
-    store::put_address(frames, s.top, e.gone.next);
+    store::put_address(frames, s.top, e.address);
     e.gone
 }
 
@@ -213,7 +213,7 @@ fn plain(
     store::put_register(frames, s.top, e.to, e.value);
     store::put_cell(objects, e.object, e.cell, e.value);
     store::put_static(statics, e.fixed, e.value);
-    store::put_address(frames, s.top, e.gone.next);
+    store::put_address(frames, s.top, e.address);
     e.gone
 }
 

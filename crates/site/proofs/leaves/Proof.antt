@@ -1,31 +1,26 @@
 -- `site::leaves` meets its contract. Assumes nothing.
-use mathlib.Core.Path.{sym}
 use borrow.Author.Tests.{ne-eqb}
 use Rattle.site.proofs.leaves.Statement.{statement}
 use Rattle.site.proofs.leaves.Tie as tie
 
-opcode-requires : tie.Need-opcode-requires
-opcode-requires c κs = tt
-
 returns : tie.Need-returns
-returns c = rw (sym (c .before .opcode .ensures), c .if1 .taken)
+returns c = rw (c .if1 .taken)
 
 returns-2 : tie.Need-returns-2
-returns-2 c = rw (sym (c .before .before .opcode .ensures), c .if2 .taken)
+returns-2 c = rw (c .if2 .taken)
 
 returns-3 : tie.Need-returns-3
-returns-3 c = rw (sym (c .before .before .before .opcode .ensures), c .if3 .taken)
+returns-3 c = rw (c .if3 .taken)
 
 returns-4 : tie.Need-returns-4
-returns-4 c = rw (sym (c .before .before .before .before .opcode .ensures), c .if4 .taken)
+returns-4 c = rw (c .if4 .taken)
 
 returns-5 : tie.Need-returns-5
-returns-5 c = rw (sym (c .before .before .before .before .before .opcode .ensures), c .if5 .taken)
+returns-5 c = rw (c .if5 .taken)
 
 returns-6 : tie.Need-returns-6
 returns-6 c =
     rw (
-      sym (c .before .before .before .before .before .opcode .ensures),
       ne-eqb _ 7 (c .before .before .before .before .if1 .left),
       ne-eqb _ 12 (c .before .before .before .if2 .left),
       ne-eqb _ 13 (c .before .before .if3 .left),
@@ -35,4 +30,11 @@ returns-6 c =
 
 pub leaves-spec : {M : Type 1} → statement M
 leaves-spec =
-    tie.close (tie.spec opcode-requires returns returns-2 returns-3 returns-4 returns-5 returns-6)
+    tie.close
+    (tie.spec
+    returns
+    returns-2
+    returns-3
+    returns-4
+    returns-5
+    returns-6)

@@ -4,32 +4,29 @@ use Rattle.site.specs.Site.{wantOf}
 use Rattle.site.proofs.wanted.Statement.{statement}
 use Rattle.site.proofs.wanted.Tie as tie
 
-opcode-requires : tie.Need-opcode-requires
-opcode-requires c κs = tt
-
 first-of-requires : tie.Need-first-of-requires
 first-of-requires c κs = tt
 
-cast-t4 : tie.Need-cast-t4
-cast-t4 c = omega arith
+cast-t5 : tie.Need-cast-t5
+cast-t5 c = omega arith
 
 second-of-requires : tie.Need-second-of-requires
 second-of-requires c κs = tt
 
-cast-t6 : tie.Need-cast-t6
-cast-t6 c = omega arith
+cast-t8 : tie.Need-cast-t8
+cast-t8 c = omega arith
 
 field-c-requires : tie.Need-field-c-requires
 field-c-requires c κs = tt
 
-cast-t8 : tie.Need-cast-t8
-cast-t8 c = omega arith
+cast-t10 : tie.Need-cast-t10
+cast-t10 c = omega arith
 
 field-b-requires : tie.Need-field-b-requires
 field-b-requires c κs = tt
 
-cast-t10 : tie.Need-cast-t10
-cast-t10 c = omega arith
+cast-t12 : tie.Need-cast-t12
+cast-t12 c = omega arith
 
 zero-value-requires : tie.Need-zero-value-requires
 zero-value-requires c κs = tt
@@ -43,21 +40,19 @@ returns c =
       c .before .before .field-c .ensures,
       c .before .field-b .ensures,
       c .zero-value .ensures,
-      c .before .before .before .before .before .opcode .ensures,
     )
 
 pub wanted-spec : {M : Type 1} → statement M
 wanted-spec =
     tie.close
     (tie.spec
-    opcode-requires
     first-of-requires
-    cast-t4
+    cast-t5
     second-of-requires
-    cast-t6
-    field-c-requires
     cast-t8
-    field-b-requires
+    field-c-requires
     cast-t10
+    field-b-requires
+    cast-t12
     zero-value-requires
     returns)

@@ -1,4 +1,4 @@
--- `store::cell_at` meets its contract: `proofs/Cell.antt`'s `at-meets`, at an Object's cells.
+-- `store::cell_at` meets its contract: `proofs/CellAt.antt`'s `at-meets`, at an Object's cells.
 -- Assumes nothing.
 use mathlib.Core.Path.{refl}
 use native.Mathlib.Omega.{arith}
@@ -7,7 +7,7 @@ use denote.Triple.Table.{entered}
 use denote.Struct.Laws as LL
 use contract.Running.{givenOf, tables, tablesOf}
 use Rattle.store.specs.Store.{absentObject, cellsOf, withCells, withCell}
-use Rattle.store.proofs.Cell.{at-meets}
+use Rattle.store.proofs.CellAt.{at-meets}
 use Rattle.cells.proofs.Object as T
 use Rattle.cells.proofs.Object.Laws as T′
 use Rattle.cells.proofs.Value as E

@@ -1,4 +1,4 @@
--- `store::put_cell` meets its contract: `proofs/Cell.antt`'s `put-meets`, at an Object's cells.
+-- `store::put_cell` meets its contract: `proofs/CellPut.antt`'s `put-meets`, at an Object's cells.
 -- Assumes nothing.
 use mathlib.Core.Path.{refl}
 use native.Mathlib.Omega.{arith}
@@ -7,7 +7,7 @@ use denote.Triple.Table.{entered}
 use denote.Struct.Laws as LL
 use contract.Running.{givenOf, tables, tablesOf}
 use Rattle.store.specs.Store.{absentObject, cellsOf, withCells, withCell}
-use Rattle.store.proofs.Cell.{put-meets}
+use Rattle.store.proofs.CellPut.{put-meets}
 use Rattle.cells.proofs.Object as T
 use Rattle.cells.proofs.Object.Laws as T′
 use Rattle.cells.proofs.Value as E

@@ -1,4 +1,4 @@
--- `store::put_register` meets its contract: `proofs/Cell.antt`'s `put-meets`, at a Frame's registers.
+-- `store::put_register` meets its contract: `proofs/CellPut.antt`'s `put-meets`, at a Frame's registers.
 -- Assumes nothing.
 use mathlib.Core.Path.{refl}
 use native.Mathlib.Omega.{arith}
@@ -7,7 +7,7 @@ use denote.Triple.Table.{entered}
 use denote.Struct.Laws as LL
 use contract.Running.{givenOf, tables, tablesOf}
 use Rattle.store.specs.Store.{absentFrame, registersOf, withRegisters, withRegister}
-use Rattle.store.proofs.Cell.{put-meets}
+use Rattle.store.proofs.CellPut.{put-meets}
 use Rattle.cells.proofs.Frame as T
 use Rattle.cells.proofs.Frame.Laws as T′
 use Rattle.cells.proofs.Value as E

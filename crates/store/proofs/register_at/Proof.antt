@@ -1,4 +1,4 @@
--- `store::register_at` meets its contract: `proofs/Cell.antt`'s `at-meets`, at a Frame's registers.
+-- `store::register_at` meets its contract: `proofs/CellAt.antt`'s `at-meets`, at a Frame's registers.
 -- Assumes nothing.
 use mathlib.Core.Path.{refl}
 use native.Mathlib.Omega.{arith}
@@ -7,7 +7,7 @@ use denote.Triple.Table.{entered}
 use denote.Struct.Laws as LL
 use contract.Running.{givenOf, tables, tablesOf}
 use Rattle.store.specs.Store.{absentFrame, registersOf, withRegisters, withRegister}
-use Rattle.store.proofs.Cell.{at-meets}
+use Rattle.store.proofs.CellAt.{at-meets}
 use Rattle.cells.proofs.Frame as T
 use Rattle.cells.proofs.Frame.Laws as T′
 use Rattle.cells.proofs.Value as E

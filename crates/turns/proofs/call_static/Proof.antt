@@ -5,7 +5,8 @@ use contract.Running.{givenOf, tables, tablesOf}
 use Rattle.turns.specs.Turns.{staticShifting}
 use Rattle.shift.proofs.static_shift.Symbol as effect-def
 use Rattle.shift.proofs.static_shift.Met as effect-thm
-use Rattle.turns.proofs.Shifts.{meets, known-in}
+use Rattle.turns.proofs.Callees.{known-in}
+use Rattle.turns.proofs.Shifts.{meets}
 use Rattle.turns.proofs.call_static.Key.{name as #f}
 use Rattle.turns.proofs.call_static as f
 use Rattle.turns.proofs.call_static.Statement as stated

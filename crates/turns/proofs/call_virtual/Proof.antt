@@ -5,7 +5,8 @@ use contract.Running.{givenOf, tables, tablesOf}
 use Rattle.turns.specs.Turns.{virtualShifting}
 use Rattle.shift.proofs.virtual_shift.Symbol as effect-def
 use Rattle.shift.proofs.virtual_shift.Met as effect-thm
-use Rattle.turns.proofs.Shifts.{meets, known-in}
+use Rattle.turns.proofs.Callees.{known-in}
+use Rattle.turns.proofs.Shifts.{meets}
 use Rattle.turns.proofs.call_virtual.Key.{name as #f}
 use Rattle.turns.proofs.call_virtual as f
 use Rattle.turns.proofs.call_virtual.Statement as stated

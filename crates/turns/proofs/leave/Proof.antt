@@ -5,7 +5,8 @@ use contract.Running.{givenOf, tables, tablesOf}
 use Rattle.turns.specs.Turns.{leaveShifting}
 use Rattle.shift.proofs.leave_shift.Symbol as effect-def
 use Rattle.shift.proofs.leave_shift.Met as effect-thm
-use Rattle.turns.proofs.Shifts.{meets, known-in}
+use Rattle.turns.proofs.Callees.{known-in}
+use Rattle.turns.proofs.Shifts.{meets}
 use Rattle.turns.proofs.leave.Key.{name as #f}
 use Rattle.turns.proofs.leave as f
 use Rattle.turns.proofs.leave.Statement as stated

@@ -5,7 +5,8 @@ use contract.Running.{givenOf, tables, tablesOf}
 use Rattle.turns.specs.Turns.{makeShifting}
 use Rattle.shift.proofs.make_shift.Symbol as effect-def
 use Rattle.shift.proofs.make_shift.Met as effect-thm
-use Rattle.turns.proofs.Shifts.{meets, known-in}
+use Rattle.turns.proofs.Callees.{known-in}
+use Rattle.turns.proofs.Shifts.{meets}
 use Rattle.turns.proofs.make.Key.{name as #f}
 use Rattle.turns.proofs.make as f
 use Rattle.turns.proofs.make.Statement as stated

@@ -5,7 +5,8 @@ use contract.Running.{givenOf, tables, tablesOf}
 use Rattle.turns.specs.Turns.{throwShifting}
 use Rattle.shift.proofs.throw_shift.Symbol as effect-def
 use Rattle.shift.proofs.throw_shift.Met as effect-thm
-use Rattle.turns.proofs.Shifts.{meets, known-in}
+use Rattle.turns.proofs.Callees.{known-in}
+use Rattle.turns.proofs.Shifts.{meets}
 use Rattle.turns.proofs.raise.Key.{name as #f}
 use Rattle.turns.proofs.raise as f
 use Rattle.turns.proofs.raise.Statement as stated

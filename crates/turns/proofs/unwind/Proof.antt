@@ -5,7 +5,8 @@ use contract.Running.{givenOf, tables, tablesOf}
 use Rattle.turns.specs.Turns.{unwindShifting}
 use Rattle.shift.proofs.unwind_shift.Symbol as effect-def
 use Rattle.shift.proofs.unwind_shift.Met as effect-thm
-use Rattle.turns.proofs.Shifts.{meets, known-in}
+use Rattle.turns.proofs.Callees.{known-in}
+use Rattle.turns.proofs.Shifts.{meets}
 use Rattle.turns.proofs.unwind.Key.{name as #f}
 use Rattle.turns.proofs.unwind as f
 use Rattle.turns.proofs.unwind.Statement as stated

@@ -8,7 +8,6 @@ use Rattle.site.proofs.Site as Si
 use Rattle.site.proofs.Site.Laws as Si′
 use Rattle.site.proofs.Gone as Go
 use Rattle.site.proofs.Gone.Laws as Go′
-use Rattle.site.specs.Site.{opcodeOf}
 use Rattle.work.specs.Work.{sgetDone, sgetWorking, fromSput}
 use Rattle.work.proofs.Keeps.{worked-keeps, sput-keeps}
 use Rattle.drive.proofs.Driver.{Drive}
@@ -29,8 +28,8 @@ unfolding code.routine tablesOf
 from-sget-spec 𝓤 H 𝓜 𝓖 𝓡 =
     entered 𝓤 H (tripleOf 𝓤 H (𝓖 .A) f.signature (f.spec 𝓤 H (𝓖 .A) (𝓜 .mem) (𝓡 .run)))
     (tables 𝓤 H 𝓜 𝓡 code.env .C) (tables 𝓤 H 𝓜 𝓡 code.env .Λ) #f code.function (code.unfolded 𝓤 H 𝓜 𝓡)
-    (br.meets Si.the-type Si′.the-laws Si′.the-plain Go.the-type Go′.the-laws Go′.the-plain (λ s. eqb (opcodeOf (s .word)) 10) sgetDone fromSput test-def.name yes-def.name no-def.name
+    (br.meets Si.the-type Si′.the-laws Si′.the-plain Go.the-type Go′.the-laws Go′.the-plain (λ s. eqb (s .opcode) 10) sgetDone fromSput test-def.name yes-def.name no-def.name
     𝓤 H (𝓖 .A) (givenOf 𝓤 H 𝓜 𝓖) (λ _. tt) (λ _ _. refl) (worked-keeps sgetWorking) sput-keeps (tablesOf 𝓤 H 𝓜 (tables 𝓤 H 𝓜 𝓡 code.env))
-    (cited 𝓤 H (br.Test Si.the-type Si′.the-laws Si′.the-plain Go.the-type Go′.the-laws Go′.the-plain (λ s. eqb (opcodeOf (s .word)) 10) sgetDone fromSput 𝓤 H (𝓖 .A)) 𝓜 𝓡 code.env test-def.name test-def.routine code.calls-site·is-sget (test-thm.met 𝓤 H 𝓜 𝓖 𝓡))
+    (cited 𝓤 H (br.Test Si.the-type Si′.the-laws Si′.the-plain Go.the-type Go′.the-laws Go′.the-plain (λ s. eqb (s .opcode) 10) sgetDone fromSput 𝓤 H (𝓖 .A)) 𝓜 𝓡 code.env test-def.name test-def.routine code.calls-site·is-sget (test-thm.met 𝓤 H 𝓜 𝓖 𝓡))
     (cited 𝓤 H (Drive Si.the-type Si′.the-laws Si′.the-plain Go.the-type Go′.the-laws Go′.the-plain sgetDone 𝓤 H (𝓖 .A)) 𝓜 𝓡 code.env yes-def.name yes-def.routine code.calls-work·get-static (yes-thm.met 𝓤 H 𝓜 𝓖 𝓡))
     (cited 𝓤 H (Drive Si.the-type Si′.the-laws Si′.the-plain Go.the-type Go′.the-laws Go′.the-plain fromSput 𝓤 H (𝓖 .A)) 𝓜 𝓡 code.env no-def.name no-def.routine code.calls-work·from-sput (no-thm.met 𝓤 H 𝓜 𝓖 𝓡)))

@@ -6,17 +6,14 @@ use Rattle.shift.proofs.stays.at_of.Tie as tie
 cast-code-word : tie.Need-cast-code-word
 cast-code-word c = omega arith
 
-cast-code-word-2 : tie.Need-cast-code-word-2
-cast-code-word-2 c = omega arith
-
 code-word-requires : tie.Need-code-word-requires
 code-word-requires c κs = tt
 
 again-left-requires : tie.Need-again-left-requires
 again-left-requires c κs = tt
 
-cast-t14 : tie.Need-cast-t14
-cast-t14 c = omega arith
+cast-t12 : tie.Need-cast-t12
+cast-t12 c = omega arith
 
 opcode-requires : tie.Need-opcode-requires
 opcode-requires c κs = tt
@@ -34,9 +31,8 @@ at-of-spec =
     tie.close
     (tie.spec
     cast-code-word
-    cast-code-word-2
     code-word-requires
     again-left-requires
-    cast-t14
+    cast-t12
     opcode-requires
     returns)

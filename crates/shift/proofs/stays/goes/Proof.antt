@@ -14,9 +14,6 @@ returns c = rw (not-went (c .before .args .k .how) (c .match .keys2))
 returns-2 : tie.Need-returns-2
 returns-2 c = rw (c .before .before .enum-told .given .1, c .if1 .taken)
 
-cast-result : tie.Need-cast-result
-cast-result c = omega arith
-
 cast-code-length : tie.Need-cast-code-length
 cast-code-length c = omega arith
 
@@ -28,7 +25,7 @@ returns-3 c =
     rw (
       c .before .before .before .before .before .enum-told .given .1,
       lt-ltb 0 (c .before .before .before .before .before .before .before .args .k .left) (omega (arith, c .before .before .before .if1 .left)),
-      c .code-length .ensures,
+      c .before .code-length .ensures,
     )
 
 pub goes-spec : {M : Type 1} → statement M
@@ -38,7 +35,6 @@ goes-spec =
     enum-told
     returns
     returns-2
-    cast-result
     cast-code-length
     code-length-requires
     returns-3)

@@ -1,4 +1,5 @@
 -- `site::kinds::binop_work` meets its contract. Assumes nothing.
+use native.Mathlib.Omega.{arith}
 use Rattle.site.specs.Work.{decidedIn}
 use Rattle.site.proofs.kinds.binop_work.Statement.{statement}
 use Rattle.site.proofs.kinds.binop_work.Tie as tie
@@ -21,6 +22,24 @@ value-of-requires-2 c κs = tt
 binop-requires : tie.Need-binop-requires
 binop-requires c κs = tt
 
+enum-known-e : tie.Need-enum-known-e
+enum-known-e c = c .match .keys1
+
+cell-of-requires : tie.Need-cell-of-requires
+cell-of-requires c κs = tt
+
+wrote-requires : tie.Need-wrote-requires
+wrote-requires c κs = tt
+
+enum-known-e-2 : tie.Need-enum-known-e-2
+enum-known-e-2 c = c .match .keys2
+
+cast-goes-to : tie.Need-cast-goes-to
+cast-goes-to c = omega arith
+
+goes-to-requires : tie.Need-goes-to-requires
+goes-to-requires c κs = tt
+
 work-of-requires : tie.Need-work-of-requires
 work-of-requires c κs = tt
 
@@ -28,13 +47,40 @@ returns : tie.Need-returns
 unfolding decidedIn
 returns c =
     rw (
+      ← c .before .before .before .before .before .before .before .before .before .before .field-d .ensures,
+      ← c .before .before .before .before .before .before .before .before .before .operation-of .ensures,
+      ← c .before .before .before .before .before .before .before .before .field-a .ensures,
+      ← c .before .before .before .before .before .before .before .value-of .ensures,
+      ← c .before .before .before .before .before .before .value-of2 .ensures,
+      ← c .before .before .before .before .before .binop .ensures,
+      c .before .before .before .e .given .1,
+      ← c .before .cell-of .ensures,
+    ) (c .wrote .ensures)
+
+returns-2 : tie.Need-returns-2
+unfolding decidedIn
+returns-2 c =
+    rw (
+      ← c .before .before .before .before .before .before .before .before .before .before .field-d .ensures,
+      ← c .before .before .before .before .before .before .before .before .before .operation-of .ensures,
+      ← c .before .before .before .before .before .before .before .before .field-a .ensures,
+      ← c .before .before .before .before .before .before .before .value-of .ensures,
+      ← c .before .before .before .before .before .before .value-of2 .ensures,
+      ← c .before .before .before .before .before .binop .ensures,
+      c .before .before .before .e2 .given .1,
+    ) (c .goes-to .ensures)
+
+returns-3 : tie.Need-returns-3
+unfolding decidedIn
+returns-3 c =
+    rw (
       c .work-of .ensures,
-      c .before .binop .ensures,
-      c .before .before .value-of2 .ensures,
-      c .before .before .before .value-of .ensures,
-      c .before .before .before .before .field-a .ensures,
-      c .before .before .before .before .before .operation-of .ensures,
-      c .before .before .before .before .before .before .field-d .ensures,
+      c .before .before .binop .ensures,
+      c .before .before .before .value-of2 .ensures,
+      c .before .before .before .before .value-of .ensures,
+      c .before .before .before .before .before .field-a .ensures,
+      c .before .before .before .before .before .before .operation-of .ensures,
+      c .before .before .before .before .before .before .before .field-d .ensures,
     )
 
 pub binop-work-spec : {M : Type 1} → statement M
@@ -47,5 +93,13 @@ binop-work-spec =
     value-of-requires
     value-of-requires-2
     binop-requires
+    enum-known-e
+    cell-of-requires
+    wrote-requires
+    enum-known-e-2
+    cast-goes-to
+    goes-to-requires
     work-of-requires
-    returns)
+    returns
+    returns-2
+    returns-3)

@@ -1,4 +1,5 @@
 -- `site::kinds::iput_work` meets its contract. Assumes nothing.
+use native.Mathlib.Omega.{arith}
 use Rattle.site.specs.Work.{decidedIn}
 use Rattle.site.proofs.kinds.iput_work.Statement.{statement}
 use Rattle.site.proofs.kinds.iput_work.Tie as tie
@@ -15,6 +16,24 @@ value-of-requires-2 c κs = tt
 put-field-requires : tie.Need-put-field-requires
 put-field-requires c κs = tt
 
+enum-known-e : tie.Need-enum-known-e
+enum-known-e c = c .match .keys1
+
+cell-of-requires : tie.Need-cell-of-requires
+cell-of-requires c κs = tt
+
+stored-requires : tie.Need-stored-requires
+stored-requires c κs = tt
+
+enum-known-e-2 : tie.Need-enum-known-e-2
+enum-known-e-2 c = c .match .keys2
+
+cast-goes-to : tie.Need-cast-goes-to
+cast-goes-to c = omega arith
+
+goes-to-requires : tie.Need-goes-to-requires
+goes-to-requires c κs = tt
+
 work-of-requires : tie.Need-work-of-requires
 work-of-requires c κs = tt
 
@@ -22,11 +41,34 @@ returns : tie.Need-returns
 unfolding decidedIn
 returns c =
     rw (
+      ← c .before .before .before .before .before .before .before .before .value-of .ensures,
+      ← c .before .before .before .before .before .before .before .field-c .ensures,
+      ← c .before .before .before .before .before .before .value-of2 .ensures,
+      ← c .before .before .before .before .before .put-field .ensures,
+      c .before .before .before .e .given .1,
+      ← c .before .cell-of .ensures,
+    ) (c .stored .ensures)
+
+returns-2 : tie.Need-returns-2
+unfolding decidedIn
+returns-2 c =
+    rw (
+      ← c .before .before .before .before .before .before .before .before .value-of .ensures,
+      ← c .before .before .before .before .before .before .before .field-c .ensures,
+      ← c .before .before .before .before .before .before .value-of2 .ensures,
+      ← c .before .before .before .before .before .put-field .ensures,
+      c .before .before .before .e2 .given .1,
+    ) (c .goes-to .ensures)
+
+returns-3 : tie.Need-returns-3
+unfolding decidedIn
+returns-3 c =
+    rw (
       c .work-of .ensures,
-      c .before .put-field .ensures,
-      c .before .before .value-of2 .ensures,
-      c .before .before .before .field-c .ensures,
-      c .before .before .before .before .value-of .ensures,
+      c .before .before .put-field .ensures,
+      c .before .before .before .value-of2 .ensures,
+      c .before .before .before .before .field-c .ensures,
+      c .before .before .before .before .before .value-of .ensures,
     )
 
 pub iput-work-spec : {M : Type 1} → statement M
@@ -37,5 +79,13 @@ iput-work-spec =
     field-c-requires
     value-of-requires-2
     put-field-requires
+    enum-known-e
+    cell-of-requires
+    stored-requires
+    enum-known-e-2
+    cast-goes-to
+    goes-to-requires
     work-of-requires
-    returns)
+    returns
+    returns-2
+    returns-3)
