@@ -1,8 +1,7 @@
 -- General proofs of functions over a table and lent slices.
 pub mod Driver
 pub mod Branch
-pub mod BranchLeft
-pub mod BranchRight
+pub mod Pure
 pub mod Turns
 pub mod Loop
 pub mod Keeps

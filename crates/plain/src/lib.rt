@@ -1,5 +1,7 @@
 // The stepper over plain words: runs a program text for at most n steps, in words that the caller lends. It runs in frames, objects
 // and statics of its own, and then writes them as words.
+mod words; // words.rt: what a run left, as words
+
 use bounded::Outcome;
 use cells::Frame;
 use cells::Object;
@@ -10,7 +12,7 @@ ghost use lib.ListN.{length, replicate};
 ghost use Rattle.reader.specs.Read.{readProgram, tablesAfter};
 ghost use Rattle.bounded.specs.Step.{stepping, steppingNumber, steppingValues, framesAfter, objectsAfter, staticsAfter, enough, steppingBy, numberOf, valuesOf};
 ghost use Rattle.bounded.specs.Lent.{lending, framesLeft, objectsLeft, staticsLeft};
-ghost use Rattle.plain.specs.Words.{put, wordIn, frameWordIn, objectWordIn, framesWord, objectsWord, hasRun};
+ghost use Rattle.plain.specs.Words.{put, wordIn, framesWord, objectsWord, hasRun};
 
 // What a run answers and leaves.
 struct Left {
@@ -20,64 +22,6 @@ struct Left {
     statics: [Value; 16],
 }
 
-// Writes values as words, from a place on.
-fn put_values(ws: &mut [u64], at: u32, cs: [Value; 16])
-    ensures memory { λ _. ⌜ now (ws .exit) ≡ put 16 (wordIn cs) (now (ws .entry)) at ⌝ }
-{
-    let mut j: usize = 0;
-    while j < 16 {
-        let c = cs[j];
-        memory::put_value(&mut *ws, at as usize + j, cells::value_of(c));
-        j += 1;
-    }
-}
-
-// Writes a frame as words, from a place on: method, address, result, 16 registers.
-fn put_frame(ws: &mut [u64], at: u16, f: Frame)
-    ensures memory { λ _. ⌜ now (ws .exit) ≡ put 19 (frameWordIn f) (now (ws .entry)) at ⌝ }
-{
-    let i = at as usize;
-    memory::put_word(&mut *ws, i, f.method as u64);
-    memory::put_word(&mut *ws, i + 1, f.address as u64);
-    let v = f.result;
-    memory::put_value(&mut *ws, i + 2, cells::value_of(v));
-    let cs = f.registers;
-    put_values(ws, at as u32 + 3, cs);
-}
-
-// Writes an object as words, from a place on: class, 16 cells.
-fn put_object(ws: &mut [u64], at: u16, o: Object)
-    ensures memory { λ _. ⌜ now (ws .exit) ≡ put 17 (objectWordIn o) (now (ws .entry)) at ⌝ }
-{
-    memory::put_word(&mut *ws, at as usize, o.class as u64);
-    let cs = o.cells;
-    put_values(ws, at as u32 + 1, cs);
-}
-
-fn put_frames(ws: &mut [u64], fs: [Frame; 32])
-    ensures memory { λ _. ⌜ now (ws .exit) ≡ put 608 (framesWord fs) (now (ws .entry)) 0 ⌝ }
-{
-    let mut i: u16 = 0;
-    while i < 32 {
-        let k = i as usize;
-        let f = fs[k];
-        put_frame(&mut *ws, 19 * i, f);
-        i += 1;
-    }
-}
-
-fn put_objects(ws: &mut [u64], os: [Object; 256])
-    ensures memory { λ _. ⌜ now (ws .exit) ≡ put 4352 (objectsWord os) (now (ws .entry)) 0 ⌝ }
-{
-    let mut i: u16 = 0;
-    while i < 256 {
-        let k = i as usize;
-        let o = os[k];
-        put_object(&mut *ws, 17 * i, o);
-        i += 1;
-    }
-}
-
 // Writes all that a run left as words.
 fn put_left(left: Left, frames: &mut [u64], objects: &mut [u64], statics: &mut [u64])
     ensures frames { λ _. ⌜ now (frames .exit) ≡ put 608 (framesWord (left .frames)) (now (frames .entry)) 0 ⌝ }
@@ -85,11 +29,11 @@ fn put_left(left: Left, frames: &mut [u64], objects: &mut [u64], statics: &mut [
     ensures statics { λ _. ⌜ now (statics .exit) ≡ put 16 (wordIn (left .statics)) (now (statics .entry)) 0 ⌝ }
 {
     let fs = left.frames;
-    put_frames(frames, fs);
+    words::put_frames(frames, fs);
     let os = left.objects;
-    put_objects(objects, os);
+    words::put_objects(objects, os);
     let ss = left.statics;
-    put_values(statics, 0, ss);
+    words::put_values(statics, 0, ss);
 }
 
 // The stepper, in frames, objects and statics of its own, each of which begins as given.

@@ -8,12 +8,12 @@ use lib.ListN.{length-set}
 use Rattle.shift.specs.declared.At.{At}
 use Rattle.shift.specs.declared.Pass.{Pass}
 use Rattle.shift.specs.Shift.{passesOf}
-use Rattle.shift.specs.Stay.{isLeaves, exitsOf, othersOf}
+use Rattle.shift.specs.Stay.{isLeaves, exitsOf}
 use Rattle.drive.specs.Models.{Lent, done}
 use Rattle.drive.proofs.Driver.{Same}
 use Rattle.drive.proofs.Turns.{same-turns}
 use Rattle.drive.proofs.Keeps.{same-self, pick-keeps, loop-keeps}
-use Rattle.turns.specs.Turns.{passOne, passDone, Shifting, shiftIn, popped, resumed, moved, wrote, shiftedOn, enteredOn, shiftDone, makeShifting, staticShifting, virtualShifting, leaveShifting, throwShifting, makeDone, staticDone, virtualDone, leaveDone, throwDone, fromThrow, fromExit, fromVirtual, applied, executed}
+use Rattle.turns.specs.Turns.{passOne, passDone, Shifting, shiftIn, popped, resumed, moved, wrote, shiftedOn, enteredOn, shiftDone, makeShifting, staticShifting, virtualShifting, leaveShifting, throwShifting, makeDone, staticDone, virtualDone, leaveDone, throwDone, fromThrow, fromExit, fromVirtual, applied, restDone, executed}
 
 -- ---- arguments
 
@@ -63,5 +63,8 @@ virtual-keeps t m h = pick-keeps (eqb (h .opcode) 12) m (virtualDone t m h) (fro
 pub apply-keeps : (t : List ℕ) (m : Lent) (h : At) → Same m (applied t m h .memory)
 apply-keeps t m h = pick-keeps (eqb (h .opcode) 13) m (staticDone t m h) (fromVirtual t m h) (shift-keeps staticShifting t m h) (virtual-keeps t m h)
 
+pub rest-keeps : (t : List ℕ) (m : Lent) (h : At) → Same m (restDone t m h .memory)
+rest-keeps t m h = same-self m
+
 pub execute-keeps : (t : List ℕ) (m : Lent) (h : At) → Same m (executed t m h .memory)
-execute-keeps t m h = pick-keeps (isLeaves (h .how)) m (applied t m h) (done (othersOf h) m) (apply-keeps t m h) (same-self m)
+execute-keeps t m h = pick-keeps (isLeaves (h .how)) m (applied t m h) (restDone t m h) (apply-keeps t m h) (rest-keeps t m h)

@@ -144,5 +144,8 @@ fromVirtual t m h = pick (eqb (h .opcode) 12) (virtualDone t m h) (fromExit t m 
 abbrev pub applied : List ℕ → Lent → At → Done Run
 applied t m h = pick (eqb (h .opcode) 13) (staticDone t m h) (fromVirtual t m h)
 
+abbrev pub restDone : List ℕ → Lent → At → Done Run
+restDone t m h = done (othersOf h) m
+
 abbrev pub executed : List ℕ → Lent → At → Done Run
-executed t m h = pick (isLeaves (h .how)) (applied t m h) (done (othersOf h) m)
+executed t m h = pick (isLeaves (h .how)) (applied t m h) (restDone t m h)

@@ -8,7 +8,7 @@ use shift::Pass;
 use shift::Run;
 ghost use mathlib.Core.Path.{_≡_};
 ghost use Rattle.drive.specs.Models.{done, lent};
-ghost use Rattle.turns.specs.Turns.{passOne, passDone, makeDone, staticDone, virtualDone, leaveDone, throwDone, unwindDone, fromThrow, fromExit, fromVirtual, applied, executed};
+ghost use Rattle.turns.specs.Turns.{passOne, passDone, makeDone, staticDone, virtualDone, leaveDone, throwDone, unwindDone, restDone, fromThrow, fromExit, fromVirtual, applied, executed};
 
 // One argument is passed.
 fn pass_one(
@@ -217,6 +217,19 @@ pub fn unwind(
     e.run
 }
 
+// A run that comes to no instruction that leaves its frame.
+fn rest(
+    t: &[u64; 768],
+    frames: &mut [Frame],
+    objects: &mut [Object],
+    statics: &mut [Value],
+    h: At,
+) -> Run
+    ensures after { λ r. ⌜ done r (lent (now (frames .exit)) (now (objects .exit)) (now (statics .exit))) ≡ restDone (now (t .entry)) (lent (now (frames .entry)) (now (objects .entry)) (now (statics .entry))) h ⌝ }
+{
+    shift::others(h)
+}
+
 // What a run has come to. Each function asks for one kind and leaves the others to the next.
 fn from_throw(
     t: &[u64; 768],
@@ -295,6 +308,6 @@ pub fn execute(
     if shift::ready(h) {
         apply(t, frames, objects, statics, h)
     } else {
-        shift::others(h)
+        rest(t, frames, objects, statics, h)
     }
 }

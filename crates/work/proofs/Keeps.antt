@@ -5,11 +5,11 @@ use Prim.Native.Nat.{ℕ}
 use lib.Dec.{eqb}
 use lib.ListN.{length-set}
 use Rattle.site.specs.declared.Site.{Site}
-use Rattle.site.specs.Site.{isClass, leavesOf, leftAt}
+use Rattle.site.specs.Site.{isClass, leavesOf}
 use Rattle.drive.specs.Models.{Lent, done}
 use Rattle.drive.proofs.Driver.{Same}
 use Rattle.drive.proofs.Keeps.{same-self, pick-keeps}
-use Rattle.work.specs.Work.{Working, worked, workIn, wroteFrames, binopDone, branchDone, igetDone, iputDone, sgetDone, sputDone, classDone, plainDone, binopWorking, branchWorking, igetWorking, iputWorking, sgetWorking, sputWorking, classWorking, plainWorking, performed, fromBranch, fromIget, fromIput, fromSget, fromSput, fromLeaving, fromClass}
+use Rattle.work.specs.Work.{Working, worked, workIn, wroteFrames, binopDone, branchDone, igetDone, iputDone, sgetDone, sputDone, classDone, plainDone, leaveDone, binopWorking, branchWorking, igetWorking, iputWorking, sgetWorking, sputWorking, classWorking, plainWorking, performed, fromBranch, fromIget, fromIput, fromSget, fromSput, fromLeaving, fromClass}
 
 pub worked-keeps : (w : Working) (t : List ℕ) (m : Lent) (s : Site) → Same m (worked w t m s .memory)
 unfolding worked
@@ -23,8 +23,11 @@ worked-keeps w t m s =
 pub class-keeps : (t : List ℕ) (m : Lent) (s : Site) → Same m (fromClass t m s .memory)
 class-keeps t m s = pick-keeps (isClass s) m (classDone t m s) (plainDone t m s) (worked-keeps classWorking t m s) (worked-keeps plainWorking t m s)
 
+pub leave-keeps : (t : List ℕ) (m : Lent) (s : Site) → Same m (leaveDone t m s .memory)
+leave-keeps t m s = same-self m
+
 pub leaving-keeps : (t : List ℕ) (m : Lent) (s : Site) → Same m (fromLeaving t m s .memory)
-leaving-keeps t m s = pick-keeps (leavesOf s) m (done (leftAt s) m) (fromClass t m s) (same-self m) (class-keeps t m s)
+leaving-keeps t m s = pick-keeps (leavesOf s) m (leaveDone t m s) (fromClass t m s) (leave-keeps t m s) (class-keeps t m s)
 
 pub sput-keeps : (t : List ℕ) (m : Lent) (s : Site) → Same m (fromSput t m s .memory)
 sput-keeps t m s = pick-keeps (eqb (s .opcode) 11) m (sputDone t m s) (fromLeaving t m s) (worked-keeps sputWorking t m s) (leaving-keeps t m s)

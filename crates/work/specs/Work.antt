@@ -113,12 +113,15 @@ plainWorking = workOn (λ s. plainOf (s .word))
 abbrev pub plainDone : List ℕ → Lent → Site → Done Gone
 plainDone = worked plainWorking
 
+abbrev pub leaveDone : List ℕ → Lent → Site → Done Gone
+leaveDone t m s = done (leftAt s) m
+
 -- the instruction at a site, by its kind
 abbrev pub fromClass : List ℕ → Lent → Site → Done Gone
 fromClass t m s = pick (isClass s) (classDone t m s) (plainDone t m s)
 
 abbrev pub fromLeaving : List ℕ → Lent → Site → Done Gone
-fromLeaving t m s = pick (leavesOf s) (done (leftAt s) m) (fromClass t m s)
+fromLeaving t m s = pick (leavesOf s) (leaveDone t m s) (fromClass t m s)
 
 abbrev pub fromSput : List ℕ → Lent → Site → Done Gone
 fromSput t m s = pick (eqb (s .opcode) 11) (sputDone t m s) (fromLeaving t m s)

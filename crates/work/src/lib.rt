@@ -7,7 +7,7 @@ use site::Gone;
 use site::Site;
 ghost use mathlib.Core.Path.{_≡_};
 ghost use Rattle.drive.specs.Models.{done, lent};
-ghost use Rattle.work.specs.Work.{binopDone, branchDone, igetDone, iputDone, sgetDone, sputDone, classDone, plainDone, performed, fromBranch, fromIget, fromIput, fromSget, fromSput, fromLeaving, fromClass};
+ghost use Rattle.work.specs.Work.{binopDone, branchDone, igetDone, iputDone, sgetDone, sputDone, classDone, plainDone, leaveDone, performed, fromBranch, fromIget, fromIput, fromSget, fromSput, fromLeaving, fromClass};
 
 // binop.
 fn binop(
@@ -217,6 +217,19 @@ fn plain(
     e.gone
 }
 
+// An instruction that does not stay in its frame is not done here.
+fn leave(
+    t: &[u64; 768],
+    frames: &mut [Frame],
+    objects: &mut [Object],
+    statics: &mut [Value],
+    s: Site,
+) -> Gone
+    ensures after { λ r. ⌜ done r (lent (now (frames .exit)) (now (objects .exit)) (now (statics .exit))) ≡ leaveDone (now (t .entry)) (lent (now (frames .entry)) (now (objects .entry)) (now (statics .entry))) s ⌝ }
+{
+    site::left(s)
+}
+
 // The instruction at a site. Each function asks for one kind and leaves the others to the next.
 fn from_class(
     t: &[u64; 768],
@@ -244,7 +257,7 @@ fn from_leaving(
     ensures after { λ r. ⌜ done r (lent (now (frames .exit)) (now (objects .exit)) (now (statics .exit))) ≡ fromLeaving (now (t .entry)) (lent (now (frames .entry)) (now (objects .entry)) (now (statics .entry))) s ⌝ }
 {
     if site::leaves(s) {
-        site::left(s)
+        leave(t, frames, objects, statics, s)
     } else {
         from_class(t, frames, objects, statics, s)
     }

@@ -1,4 +1,4 @@
--- `plain::put_frames` meets its contract. The invariant: the elements up to i are put. Assumes nothing.
+-- `plain::words::put_frames` meets its contract. The invariant: the elements up to i are put. Assumes nothing.
 use mathlib.Core.Path.{_≡_, refl, ap, _∙_}
 use Prim.Native.Nat.{ℕ, _-_, _*_, _≤_}
 use native.Mathlib.Omega.{arith}
@@ -7,8 +7,8 @@ use Rattle.store.specs.Store.{absentFrame}
 use Rattle.plain.specs.Words.{put, framesWord, frameWordIn}
 use Rattle.plain.proofs.Puts.{length-put}
 use Rattle.plain.proofs.Elements.{one-more, frame-more}
-use Rattle.plain.proofs.put_frames.Statement.{statement}
-use Rattle.plain.proofs.put_frames.Tie as tie
+use Rattle.plain.proofs.words.put_frames.Statement.{statement}
+use Rattle.plain.proofs.words.put_frames.Tie as tie
 
 abbrev Inv-loop : tie.InvT-loop
 Inv-loop ws₀ fs i₀ ws i = (i ≤ 32) × (ws ≡ put (19 * i) (framesWord fs) ws₀ 0)

@@ -1,4 +1,4 @@
--- `plain::put_values` meets its contract. The invariant: the words up to j are put. Assumes nothing.
+-- `plain::words::put_values` meets its contract. The invariant: the words up to j are put. Assumes nothing.
 use mathlib.Core.Path.{_≡_, refl, ap, _∙_}
 use mathlib.Core.List.{List}
 use Prim.Native.Nat.{ℕ, _+_, _-_, _≤_}
@@ -11,8 +11,8 @@ use Rattle.cells.specs.declared.Value.{Value}
 use Rattle.cells.specs.Cells.{valueOf, zeroValue}
 use Rattle.plain.specs.Words.{put, wordIn}
 use Rattle.plain.proofs.Puts.{length-put}
-use Rattle.plain.proofs.put_values.Statement.{statement}
-use Rattle.plain.proofs.put_values.Tie as tie
+use Rattle.plain.proofs.words.put_values.Statement.{statement}
+use Rattle.plain.proofs.words.put_values.Tie as tie
 
 abbrev Inv-loop : tie.InvT-loop
 Inv-loop ws₀ at cs j₀ ws j = (j ≤ 16) × (ws ≡ put j (wordIn cs) ws₀ at)

@@ -1,8 +1,8 @@
--- `plain::put_object` meets its contract. Assumes nothing.
+-- `plain::words::put_object` meets its contract. Assumes nothing.
 use Rattle.plain.proofs.Elements.{object-put}
 use borrow.Author.Needs.{needs}
-use Rattle.plain.proofs.put_object.Statement.{statement}
-use Rattle.plain.proofs.put_object.Tie as tie
+use Rattle.plain.proofs.words.put_object.Statement.{statement}
+use Rattle.plain.proofs.words.put_object.Tie as tie
 
 cast-put-word : tie.Need-cast-put-word
 cast-put-word c = search needs

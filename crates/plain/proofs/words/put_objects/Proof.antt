@@ -1,4 +1,4 @@
--- `plain::put_objects` meets its contract. The invariant: the elements up to i are put. Assumes nothing.
+-- `plain::words::put_objects` meets its contract. The invariant: the elements up to i are put. Assumes nothing.
 use mathlib.Core.Path.{_≡_, refl, ap, _∙_}
 use Prim.Native.Nat.{ℕ, _-_, _*_, _≤_}
 use native.Mathlib.Omega.{arith}
@@ -7,8 +7,8 @@ use Rattle.store.specs.Store.{absentObject}
 use Rattle.plain.specs.Words.{put, objectsWord, objectWordIn}
 use Rattle.plain.proofs.Puts.{length-put}
 use Rattle.plain.proofs.Elements.{one-more, object-more}
-use Rattle.plain.proofs.put_objects.Statement.{statement}
-use Rattle.plain.proofs.put_objects.Tie as tie
+use Rattle.plain.proofs.words.put_objects.Statement.{statement}
+use Rattle.plain.proofs.words.put_objects.Tie as tie
 
 abbrev Inv-loop : tie.InvT-loop
 Inv-loop ws₀ os i₀ ws i = (i ≤ 256) × (ws ≡ put (17 * i) (objectsWord os) ws₀ 0)

@@ -1,8 +1,8 @@
--- `plain::put_frame` meets its contract. Assumes nothing.
+-- `plain::words::put_frame` meets its contract. Assumes nothing.
 use Rattle.plain.proofs.Elements.{frame-put}
 use borrow.Author.Needs.{needs}
-use Rattle.plain.proofs.put_frame.Statement.{statement}
-use Rattle.plain.proofs.put_frame.Tie as tie
+use Rattle.plain.proofs.words.put_frame.Statement.{statement}
+use Rattle.plain.proofs.words.put_frame.Tie as tie
 
 cast-put-word : tie.Need-cast-put-word
 cast-put-word c = search needs
