@@ -7,7 +7,7 @@ use Prim.Native.Nat.{ℕ, suc, _%_, _≤_, _<_}
 use native.Mathlib.Omega.{arith}
 use lib.Dec.{T as Holds, ltb}
 use lib.ListN.{length}
-use borrow.Author.Tests.{lt-ltb, le-ltb, eq-eqb, ne-eqb}
+use borrow.Author.Tests.{le-ltb, eq-eqb, ne-eqb}
 use Rattle.text.proofs.Cases.{never}
 use Rattle.program.specs.Program.{Program, codeLength}
 use Rattle.program.specs.Tables.{programIn}
@@ -23,7 +23,7 @@ use Rattle.shift.specs.Places.{topOf}
 use Rattle.drive.specs.Models.{Lent}
 use Rattle.drive.proofs.Turns.{turn-over}
 use Rattle.lies.specs.Lies.{statusOf, Roomy}
-use Rattle.shifting.proofs.Looked.{method-in, address-in}
+use Rattle.shifting.proofs.Looked.{top-of, method-in, address-in}
 use Rattle.rounds.specs.Rounds.{oneDone, goes, methodIn, addressIn, stayIn}
 use Rattle.ran.specs.Ran.{Going}
 use Rattle.ran.specs.Rounding.{Standing, Paused}
@@ -57,10 +57,6 @@ empty-stops p s e q = rw (e, q)
 pub small : (p : Program) → Formed p → (m a : ℕ) → a < codeLength p m → a % 256 ≡ a
 small p formed m a l = omega (arith, formed .limited .code m)
 
--- the top of so many frames
-top-is : (d r : ℕ) → d ≡ suc r → topOf d ≡ r
-top-is d r e = rw (e, lt-ltb 0 (suc r) (omega arith)) (omega arith)
-
 begin-is : (d r a : ℕ) → d ≡ suc r → beginAt d a ≡ a
 begin-is d r a e = rw (ne-eqb d 0 (λ q. omega arith))
 
@@ -72,7 +68,7 @@ module _ (p : Program) (n : ℕ) (s : State) (before : Lent) (k : Run) (now : Le
     deep = g .lies .depth ∙ ap length frames
 
     top : topOf (k .tally .depth) ≡ length rest
-    top = top-is (k .tally .depth) (length rest) deep
+    top = top-of (k .tally .depth) (length rest) deep
 
     pub standing : Standing p n s before (k .tally) (stayOf k (methodIn now k) (addressIn now k)) now
     standing =

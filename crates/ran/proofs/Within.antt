@@ -2,7 +2,7 @@
 use mathlib.Core.Path.{_≡_, refl, sym, ap, subst, _∙_}
 use mathlib.Core.Bool.{_&&_}
 use mathlib.Core.List.{List, [], _∷_}
-use Prim.Native.Nat.{ℕ, zero, suc, _≤_, _<_}
+use Prim.Native.Nat.{ℕ, zero, suc, _-_, _≤_, _<_}
 use native.Mathlib.Omega.{arith}
 use lib.Dec.{ltb}
 use borrow.Author.Tests.{ltb-true, ltb-false, lt-ltb}
@@ -23,7 +23,8 @@ use Rattle.site.specs.declared.Site.{Site}
 use Rattle.shift.specs.declared.Run.{Run}
 use Rattle.shift.specs.declared.Stay.{Stay}
 use Rattle.shift.specs.Stay.{isWent, siteOf, wentTo, stayOf}
-use Rattle.shift.specs.Places.{nextLeft}
+use Rattle.shift.specs.Places.{precedingOf}
+use Rattle.shift.proofs.Places.{preceding-is}
 use Rattle.drive.specs.Models.{Lent, Done, done, looped}
 use Rattle.drive.proofs.Turns.{turn-over}
 use Rattle.work.specs.Work.{performed}
@@ -49,13 +50,20 @@ module _ (t : List ℕ) (formed : Formed (programIn t)) (n : ℕ) (s : State) (b
       site : w .frame .address < codeLength (programIn t) (w .frame .method) → siteOf (programIn t) k ≡ siteAt (programIn t) (w .frame) (w .rest)
       site l = rw (w .top, w .method, w .pc, small (programIn t) formed (w .frame .method) (w .frame .address) l)
 
+      -- a step that was counted is given back
+      again : 0 < k .left → suc (precedingOf (k .left)) ≡ k .left
+      again more = rw (preceding-is (k .left) more) (omega (arith, more))
+
       -- what the instruction comes to
       next : 0 < k .left → w .frame .address < codeLength (programIn t) (w .frame .method) → (r : Done Gone) (h : How) → r .result .how ≡ h
           → StayedBy (programIn t) (w .going .state) before u now (w .frame) (w .rest) r h
           → NextBy (programIn t) n s before u (done (wentTo k (r .result)) (r .memory)) h
       next more l r Went e st =
           record {
-            going = goes-on (programIn t) n (k .left) s before u now (w .going) formed more u (r .memory) (st .0) (st .1 .0);
+            going =
+                as-many (programIn t) n (k .left - 1) s before u (r .memory)
+                (goes-on (programIn t) n (k .left) s before u now (w .going) formed more u (r .memory) (st .0) (st .1 .0))
+                (precedingOf (k .left)) (preceding-is (k .left) more);
             frame = st .1 .1 .frame;
             rest = w .rest;
             frames = st .1 .1 .frames;
@@ -67,7 +75,7 @@ module _ (t : List ℕ) (formed : Formed (programIn t)) (n : ℕ) (s : State) (b
       next more l r Leaves e st =
           rw (st .0)
           (record {
-            going = as-many (programIn t) n (k .left) s before u now (w .going) (suc (nextLeft (k .left))) (omega arith);
+            going = as-many (programIn t) n (k .left) s before u now (w .going) (suc (precedingOf (k .left))) (again more);
             frame = w .frame;
             rest = w .rest;
             at = at l;
@@ -78,7 +86,7 @@ module _ (t : List ℕ) (formed : Formed (programIn t)) (n : ℕ) (s : State) (b
       next more l r (Failed e) q st =
           rw (st .0)
           (record {
-            going = as-many (programIn t) n (k .left) s before u now (w .going) (suc (nextLeft (k .left))) (omega arith);
+            going = as-many (programIn t) n (k .left) s before u now (w .going) (suc (precedingOf (k .left))) (again more);
             frame = w .frame;
             rest = w .rest;
             at = at l;
@@ -135,8 +143,9 @@ module _ (t : List ℕ) (formed : Formed (programIn t)) (n : ℕ) (s : State) (b
     loop (suc i) k now l w =
         turns k now w (looped goes oneDone t i (oneDone t now k .memory) (oneDone t now k .result))
         (λ more inside.
+        let fewer : oneDone t now k .result .left ≡ k .left - 1 = preceding-is (k .left) more in
         turned i (oneDone t now k) (oneDone t now k .result .how) refl (one k now w more inside)
-        (λ st. loop i (oneDone t now k .result) (oneDone t now k .memory) (omega arith) st))
+        (λ st. loop i (oneDone t now k .result) (oneDone t now k .memory) (omega (arith, fewer, l, more)) st))
 
   -- ---- the loop, of a run
   module _ (k : Run) (now : Lent) (run : k .tally .status ≡ Running) (g : Going (programIn t) n (k .left) s before (k .tally) now) where

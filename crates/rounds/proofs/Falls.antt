@@ -13,6 +13,7 @@ use Rattle.site.specs.declared.How.{How}
 use Rattle.site.specs.declared.How.the-variants as how
 use Rattle.shift.specs.declared.Run.{Run}
 use Rattle.shift.specs.declared.Stay.{Stay}
+use Rattle.shift.proofs.Places.{preceding-is}
 use Rattle.shift.specs.Stay.{isWent, againLeft, siteOf, stayOf, atOf, raisedAt, isRunning, runsOn}
 use Rattle.drive.specs.Models.{Lent, Done, done, looped}
 use Rattle.drive.proofs.Driver.{Same}
@@ -57,15 +58,15 @@ more-left t k h =
     (both (isWent (k .how) && ltb 0 (k .left)) (ltb (k .pc) (codeLength (programIn t) (k .method))) h .0) .1)
 
 pub stay-falls : (t : List ℕ) (m : Lent) (k : Stay) → Holds (goes t k) → oneDone t m k .result .left < k .left
-stay-falls t m k h = omega (arith, more-left t k h)
+stay-falls t m k h = rw (preceding-is (k .left) (more-left t k h)) (omega (arith, more-left t k h))
 
 -- a step is counted with every turn, so that one that was not made can be given back
 again-few : (e : How) (left n : ℕ) → left < n → againLeft left e ≤ n
 again-few how.Went left n l = omega arith
 again-few how.Leaves left n l =
-    pick-cases (λ k. k ≤ n) (ltb left 18446744073709551615) (left + 1) left (λ _. omega arith) (λ _. omega arith)
+    pick-cases (λ k. k ≤ n) (ltb left 18446744073709551615) (left + 1) 0 (λ _. omega arith) (λ _. omega arith)
 again-few (how.Failed e) left n l =
-    pick-cases (λ k. k ≤ n) (ltb left 18446744073709551615) (left + 1) left (λ _. omega arith) (λ _. omega arith)
+    pick-cases (λ k. k ≤ n) (ltb left 18446744073709551615) (left + 1) 0 (λ _. omega arith) (λ _. omega arith)
 
 stay-few : (t : List ℕ) (i : ℕ) (m : Lent) (k : Stay) (n : ℕ) → k .left ≤ n → againLeft (k .left) (k .how) ≤ n
     → againLeft (looped goes oneDone t i m k .result .left) (looped goes oneDone t i m k .result .how) ≤ n

@@ -13,9 +13,13 @@ use Rattle.turn.specs.declared.Status.the-variants.{Running, Raised, Done, Unca
 use Rattle.shift.specs.declared.At.{At}
 use Rattle.shift.specs.declared.Look.{Look}
 
+-- the number before; before 0 there is none
+abbrev pub precedingOf : ℕ → ℕ
+precedingOf n = pick (ltb 0 n) (n - 1) nowhere
+
 -- the top of so many frames, and the one below it
 abbrev pub topOf : ℕ → ℕ
-topOf depth = pick (ltb 0 depth) (depth - 1) nowhere
+topOf depth = precedingOf depth
 
 abbrev pub belowOf : ℕ → ℕ
 belowOf depth = pick (ltb 1 depth) (depth - 2) nowhere

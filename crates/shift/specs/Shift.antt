@@ -129,7 +129,7 @@ calledBy p h m c =
 
 -- the address after a call's, which lies below 32
 abbrev pub followingOf : ℕ → ℕ
-followingOf a = pick (ltb a 32) (a + 1) 0
+followingOf a = pick (ltb a 4294967295) (a + 1) 0
 
 -- the top frame returns a value to the one below, which is at address b
 abbrev pub exitedBy : At → ℕ → machine.Value → Shift
@@ -230,7 +230,7 @@ abbrev pub passesOf : Pass → Bool
 passesOf p = ltb 0 (p .count)
 
 abbrev pub upOf : ℕ → ℕ
-upOf n = pick (ltb n 256) (n + 1) 256
+upOf n = pick (ltb n 18446744073709551615) (n + 1) 0
 
 abbrev pub passedOf : Pass → Pass
 passedOf p =

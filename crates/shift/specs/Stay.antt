@@ -17,7 +17,7 @@ use Rattle.shift.specs.declared.Run.{Run}
 use Rattle.shift.specs.declared.Stay.{Stay}
 use Rattle.shift.specs.declared.Stop.{Stop}
 use Rattle.shift.specs.declared.Stop.the-variants as stop
-use Rattle.shift.specs.Places.{topOf, nextLeft}
+use Rattle.shift.specs.Places.{precedingOf, topOf}
 use Rattle.shift.specs.Shift.{stopped, withStatus}
 
 -- ---- how an instruction ended
@@ -62,14 +62,14 @@ siteOf p k =
 abbrev pub goesOn : Program → Stay → Bool
 goesOn p k = isWent (k .how) && ltb 0 (k .left) && ltb (k .pc) (codeLength p (k .method))
 
--- one instruction further
+-- one instruction further; it went on, so that there was a step left
 abbrev pub wentTo : Stay → Gone → Stay
 wentTo k g =
-    record { left = nextLeft (k .left); top = k .top; method = k .method; pc = g .next; how = g .how }
+    record { left = precedingOf (k .left); top = k .top; method = k .method; pc = g .next; how = g .how }
 
 -- an instruction that did not go to another address was counted and is no step
 abbrev pub againLeft : ℕ → How → ℕ
-againLeft n e = pick (isWent e) n (pick (ltb n 18446744073709551615) (n + 1) n)
+againLeft n e = pick (isWent e) n (pick (ltb n 18446744073709551615) (n + 1) 0)
 
 -- where it has come to
 abbrev pub atOf : Program → Run → Stay → At

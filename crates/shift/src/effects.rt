@@ -142,7 +142,7 @@ pub fn called(t: &[u64; 768], h: At, method: usize, first: u8) -> Shift
 fn following(a: u32) -> u32
     ensures value { λ r. ⌜ r ≡ followingOf a ⌝ }
 {
-    if a < 32 { a + 1 } else { 0 }
+    if a < 4294967295 { a + 1 } else { 0 }
 }
 
 // The top frame returns a value to the one below, which is at address `below`.

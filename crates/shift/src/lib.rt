@@ -16,7 +16,7 @@ ghost use mathlib.Core.Path.{_≡_};
 ghost use lib.Dec.{eqb};
 ghost use Rattle.instruction.specs.Word.{pick};
 ghost use Rattle.site.specs.Site.{aOf, cOf};
-ghost use Rattle.shift.specs.Places.{topOf, belowOf, lookOf, thrownAt, nextLeft};
+ghost use Rattle.shift.specs.Places.{precedingOf, topOf, belowOf, lookOf, thrownAt, nextLeft};
 pub use asks::exits;
 pub use asks::is_running;
 pub use asks::is_static;
@@ -110,15 +110,21 @@ pub struct Shift {
     pub run: Run,
 }
 
+// The number before n. Before 0 it is the last number of a word: so it is compiled without a test.
+fn preceding(n: u64) -> u64
+    ensures value { λ r. ⌜ r ≡ precedingOf n ⌝ }
+{
+    if 0 < n {
+        return n - 1;
+    }
+    18446744073709551615
+}
+
 // The top of so many frames, and the one below it; none is past every slice.
 pub fn top_of(depth: u8) -> usize
     ensures value { λ r. ⌜ r ≡ topOf depth ⌝ }
 {
-    let d = depth as usize;
-    if 0 < d {
-        return d - 1;
-    }
-    18446744073709551615
+    preceding(depth as u64) as usize
 }
 
 pub fn below_of(depth: u8) -> usize

@@ -2,7 +2,7 @@
 use super::At;
 use super::Run;
 use super::Stay;
-use super::one_less;
+use super::preceding;
 use super::top_of;
 use site::Gone;
 use site::How;
@@ -44,7 +44,7 @@ pub fn went(k: Stay, g: Gone) -> Stay
 {
     let how = g.how;
     Stay {
-        left: one_less(k.left),
+        left: preceding(k.left),
         top: k.top,
         method: k.method,
         pc: g.next,
@@ -85,7 +85,7 @@ fn again_left(left: u64, how: How) -> u64
     if left < 18446744073709551615 {
         return left + 1;
     }
-    left
+    0
 }
 
 // Where a run has come to that stayed in its frame.

@@ -168,7 +168,7 @@ module _ (t : List ℕ) (p : Program) (s : State) (before now : Lent) (h : At) (
       let few : length (g ∷ rest) < 32 = few-below s before now (h .run) f (g ∷ rest) c in
       let all : Every (λ (g : Frame). g .address < 32) (g ∷ rest) = all-wait s before now (h .run) f (g ∷ rest) c in
       let below = below-of (h .run .tally .depth) (length rest) depth in
-      let onward : followingOf b ≡ suc (g .address) = rw (at, lt-ltb (g .address) 32 (all .0)) (add-one (g .address)) in
+      let onward : followingOf b ≡ suc (g .address) = rw (at, lt-ltb (g .address) 4294967295 (omega (arith, all .0))) (add-one (g .address)) in
       let e : Shift = exitedBy h b v in
       frames-lie (g ∷ rest) c e (returned s v (g ∷ rest)) next free refl refl refl refl (suc (length rest)) Running
       (leaving-other (h .run) Done Running (length rest) depth) refl refl (omega (arith, few)) (all .1)

@@ -81,7 +81,7 @@ nothing-written t m k l b =
     ∙ ap (λ (fs : List cells.Frame). done k (lent fs (m .objects) (m .statics))) (entered-none (m .frames) (only k) l refl)
 
 up : (n : ℕ) → n < 256 → upOf n ≡ suc n
-up n l = rw (lt-ltb n 256 l) (omega arith)
+up n l = rw (lt-ltb n 18446744073709551615 (omega (arith, l))) (omega arith)
 
 -- so many arguments
 all-passed : (t : List ℕ) (n : ℕ) (m : Lent) (q : Pass) → q .count ≡ n → q .from + n ≤ 256 → q .to + n ≤ 256

@@ -37,6 +37,7 @@ pub fn goes_to(next: u32, how: How) -> Work
 pub fn wrote(pc: u8, to: u8, value: Value) -> Work
     ensures value { λ r. ⌜ r ≡ wrote pc to value ⌝ }
 {
+    let next = pc as u32 + 1;
     Work {
         to: (to % 16) as usize,
         value,
@@ -44,16 +45,17 @@ pub fn wrote(pc: u8, to: u8, value: Value) -> Work
         cell: 16,
         fixed: 18446744073709551615,
         gone: Gone {
-            next: pc as usize + 1,
+            next: next as usize,
             how: How::Went,
         },
-        address: pc as u32 + 1,
+        address: next,
     }
 }
 
 pub fn stored(pc: u8, object: u32, cell: u8, value: Value) -> Work
     ensures value { λ r. ⌜ r ≡ storedIn pc object cell value ⌝ }
 {
+    let next = pc as u32 + 1;
     Work {
         to: 16,
         value,
@@ -61,16 +63,17 @@ pub fn stored(pc: u8, object: u32, cell: u8, value: Value) -> Work
         cell: cell as usize,
         fixed: 18446744073709551615,
         gone: Gone {
-            next: pc as usize + 1,
+            next: next as usize,
             how: How::Went,
         },
-        address: pc as u32 + 1,
+        address: next,
     }
 }
 
 pub fn kept(pc: u8, fixed: u8, value: Value) -> Work
     ensures value { λ r. ⌜ r ≡ keptIn pc fixed value ⌝ }
 {
+    let next = pc as u32 + 1;
     Work {
         to: 16,
         value,
@@ -78,10 +81,10 @@ pub fn kept(pc: u8, fixed: u8, value: Value) -> Work
         cell: 16,
         fixed: fixed as usize,
         gone: Gone {
-            next: pc as usize + 1,
+            next: next as usize,
             how: How::Went,
         },
-        address: pc as u32 + 1,
+        address: next,
     }
 }
 

@@ -8,10 +8,10 @@ add-result : tie.Need-add-result
 add-result c = omega arith
 
 returns : tie.Need-returns
-returns c = rw (lt-ltb (c .before .args .n) 256 (omega arith))
+returns c = rw (lt-ltb (c .before .args .n) 18446744073709551615 (omega arith))
 
 returns-2 : tie.Need-returns-2
-returns-2 c = rw (le-ltb (c .before .args .n) 256 (omega arith))
+returns-2 c = rw (le-ltb (c .before .args .n) 18446744073709551615 (omega arith))
 
 pub up-spec : {M : Type 1} → statement M
 up-spec = tie.close (tie.spec add-result returns returns-2)

@@ -2,11 +2,11 @@
 use Rattle.shift.proofs.stays.went.Statement.{statement}
 use Rattle.shift.proofs.stays.went.Tie as tie
 
-one-less-requires : tie.Need-one-less-requires
-one-less-requires c κs = tt
+preceding-requires : tie.Need-preceding-requires
+preceding-requires c κs = tt
 
 returns : tie.Need-returns
-returns c = rw (c .one-less .ensures)
+returns c = rw (c .preceding .ensures)
 
 pub went-spec : {M : Type 1} → statement M
-went-spec = tie.close (tie.spec one-less-requires returns)
+went-spec = tie.close (tie.spec preceding-requires returns)
