@@ -1,13 +1,16 @@
 -- What is read and written in one frame and one object that a slice holds. Assumes nothing.
-use mathlib.Core.Path.{_≡_, refl, ap}
+use mathlib.Core.Path.{_≡_, refl, sym, ap, _∙_}
 use mathlib.Core.List.{List}
 use Prim.Native.Nat.{ℕ, _≤_, _<_}
 use native.Mathlib.Omega.{arith}
-use lib.ListN.{length, getD, set, replicate}
+use lib.Dec.{ltb}
+use lib.ListN.{length, getD, set, replicate, List·getD-eq-default}
 use lib.Seq.{getD-set-same, getD-set-other, set-out}
+use borrow.Author.Tests.{ltb-true, ltb-false}
+use Rattle.text.proofs.Cases.{by-test}
 use Rattle.program.specs.Lists.{tab}
 use Rattle.program.specs.Program.{Program, fieldCount}
-use Rattle.program.proofs.Lists.{length-tab, getD-tab}
+use Rattle.program.proofs.Lists.{length-tab, getD-tab, getD-tab-out}
 use Rattle.program.proofs.Writes.{set-tab}
 use Rattle.machine.specs.declared.Value as machine
 use Rattle.machine.specs.State as state
@@ -44,6 +47,15 @@ module _ (n : ℕ) (vs : List machine.Value) where
 module _ (f : state.Frame) where
   pub register-read : (r : ℕ) (c : Value) → r < 16 → getD (frameOf f .registers) r c ≡ cellOf (register f r)
   register-read r c l = values-read 16 (f .registers) r c l
+
+  -- past the registers null is read
+  pub register-any : (r : ℕ) → length (f .registers) ≤ 16 → getD (frameOf f .registers) r zeroValue ≡ cellOf (register f r)
+  register-any r few =
+      by-test (ltb r 16)
+      (λ t. register-read r zeroValue (ltb-true r 16 t))
+      (λ t.
+      getD-tab-out 16 (λ i. cellOf (register f i)) r zeroValue (ltb-false r 16 t)
+      ∙ ap cellOf (sym (List·getD-eq-default (f .registers) null (omega (arith, few, ltb-false r 16 t)))))
 
   pub register-put : (r : ℕ) (v : machine.Value) → r < length (f .registers) → length (f .registers) ≤ 16
       → withRegister (frameOf f) r (cellOf v)

@@ -1,12 +1,28 @@
--- The registers that an instruction of a well-formed program reads are below 16. Assumes nothing.
+-- A frame of a well-formed program has at most 16 registers, and those that an instruction reads are below 16. Assumes nothing.
+use mathlib.Core.Path.{_≡_}
+use mathlib.Core.List.{List, _∷_}
 use Prim.Native.Nat.{ℕ, _≤_, _<_}
 use native.Mathlib.Omega.{arith}
+use lib.ListN.{length}
 use Rattle.instruction.specs.declared.Instruction.{Instruction}
 use Rattle.instruction.specs.declared.Instruction.the-variants.{Nop, Move, Const, Goto, If, IfZero, Binop, Unop, NewInstance, Iget, Iput, Sget, Sput, InvokeVirtual, InvokeStatic, MoveResult, MoveException, Return, ReturnVoid, Throw, InstanceOf, CheckCast}
 use Rattle.instruction.specs.Test.{Holds}
+use Rattle.program.specs.Program.{Program, registers, codeLength}
+use Rattle.reader.specs.Formed.{Formed}
+use Rattle.machine.specs.State.{Frame, State}
+use Rattle.machine.specs.Shaped.{Shaped}
+use Rattle.machine.proofs.Fitting.{method-exists, top-shaped}
 use Rattle.operands.specs.declared.Limits.{Limits}
 use Rattle.operands.specs.Names.{named}
 use Rattle.site.proofs.Decided.{Low, firstRegister, secondRegister}
+
+-- a top frame's registers, at an address inside its method
+pub registers-few : (p : Program) → Formed p → (s : State) → Shaped p s → (f : Frame) (rest : List Frame) → s .frames ≡ f ∷ rest
+    → f .address < codeLength p (f .method) → length (f .registers) ≤ 16
+registers-few p formed s shaped f rest e inside =
+    let size : length (f .registers) ≡ registers p (f .method) = top-shaped p s shaped f rest e .0 .size in
+    let few : registers p (f .method) ≤ 16 = formed .methods (f .method) (method-exists p (f .method) (f .address) inside) .registers-to in
+    omega (arith, size, few)
 
 module _ (l : Limits) (few : l .registers ≤ 16) where
   below : (r : ℕ) → r < l .registers → r < 16

@@ -2,18 +2,15 @@
 -- Assumes nothing.
 use mathlib.Core.Path.{_≡_, refl, sym, ap, _∙_}
 use mathlib.Core.List.{List, [], _∷_, map}
-use Prim.Native.Nat.{ℕ, zero, suc, _≤_, _<_}
+use Prim.Native.Nat.{ℕ, _≤_, _<_}
 use native.Mathlib.Omega.{arith}
-use lib.Dec.{ltb}
-use lib.ListN.{length, getD, List·getD-eq-default}
-use borrow.Author.Tests.{ltb-true, ltb-false}
-use Rattle.text.proofs.Cases.{by-test}
+use lib.ListN.{length, getD, List·getD-map}
 use Rattle.program.specs.Program.{Program, fieldCount}
 use Rattle.reader.specs.Formed.{FormedMethod, Formed}
 use Rattle.machine.specs.declared.Value as machine
 use Rattle.machine.specs.declared.Value.the-variants.{Number, Reference}
 use Rattle.machine.specs.State as state
-use Rattle.machine.specs.State.{State, running, null, register, objectAt, cell, static}
+use Rattle.machine.specs.State.{State, running, register, objectAt, cell, static}
 use Rattle.machine.specs.Shaped.{Known, ShapedFrame, Shaped}
 use Rattle.machine.proofs.Continues.{At}
 use Rattle.machine.proofs.Fitting.{method-exists, top-shaped}
@@ -27,7 +24,7 @@ use Rattle.cells.specs.Reads.{objectPlace}
 use Rattle.cells.proofs.Values.{reference-is}
 use Rattle.store.specs.Store.{absentFrame, absentObject, resultOf, registersOf, classOf, cellsOf, withClass}
 use Rattle.laid.proofs.Lists.{read-nowhere}
-use Rattle.laid.proofs.Parts.{register-read, cell-read}
+use Rattle.laid.proofs.Parts.{register-any, cell-read}
 use Rattle.laid.proofs.Frames.{top-read}
 use Rattle.laid.proofs.Objects.{objects-length, object-read}
 use Rattle.laid.proofs.Statics.{static-read}
@@ -37,6 +34,7 @@ use Rattle.drive.specs.Models.{Lent}
 use Rattle.work.specs.Work.{firstIn, secondIn, resultIn, classIn, cellIn, staticIn}
 use Rattle.lies.specs.Lies.{Roomy, Lies}
 use Rattle.lies.specs.Staying.{siteAt}
+use Rattle.lies.proofs.Registers.{registers-few}
 
 -- a running state of a well-formed program that lies in the slices, with f on top at an address inside its method
 pub record Ready (p : Program) (s : State) (before : Lent) (k : Tally) (now : Lent) (f : state.Frame) (rest : List state.Frame) : Type 0 where
@@ -46,11 +44,27 @@ pub record Ready (p : Program) (s : State) (before : Lent) (k : Tally) (now : Le
   pub lies : Lies s before k now
   pub here : At p s running f rest
 
--- a part of an element
-part-read : {A B : Type 0} (g : A → B) (xs : List A) (i : ℕ) (d : A) → getD (map g xs) i (g d) ≡ g (getD xs i d)
-part-read g [] i d = refl
-part-read g (x ∷ xs) zero d = refl
-part-read g (x ∷ xs) (suc i) d = part-read g xs i d
+-- ---- the objects of any state that lies in the slices
+
+module _ {s : State} {before : Lent} {k : Tally} {now : Lent} (roomy : Roomy before) (lies : Lies s before k now) where
+  object-lies : (o : ℕ) (d : Object) → o < length (s .objects) → getD (now .objects) o d ≡ objectOf (objectAt s o)
+  object-lies o d l =
+      ap (λ (os : List Object). getD os o d) (lies .objects)
+      ∙ object-read s (before .objects) d o l (lies .few-objects) (roomy .objects)
+
+  -- the class of an object, and of a value
+  pub object-class : (o : ℕ) → o < length (s .objects) → getD (map classOf (now .objects)) o 64 ≡ objectAt s o .class
+  object-class o l =
+      List·getD-map classOf (now .objects) o (withClass absentObject 64) ∙ ap classOf (object-lies o (withClass absentObject 64) l)
+
+  pub value-class : (v : machine.Value) → Known (length (s .objects)) v
+      → getD (map classOf (now .objects)) (objectPlace (cellOf v)) 64 ≡ state.classOf s v
+  value-class (Number z) l =
+      List·getD-map classOf (now .objects) 18446744073709551615 (withClass absentObject 64)
+      ∙ ap classOf
+      (read-nowhere (now .objects) (withClass absentObject 64)
+      (omega (arith, ap (λ (os : List Object). length os) (lies .objects), objects-length s (before .objects), roomy .objects-end)))
+  value-class (Reference o) l = object-class o l
 
 module _ {p : Program} {s : State} {before : Lent} {k : Tally} {now : Lent} {f : state.Frame} {rest : List state.Frame}
     (h : Ready p s before k now f rest) where
@@ -64,7 +78,7 @@ module _ {p : Program} {s : State} {before : Lent} {k : Tally} {now : Lent} {f :
 
   -- "r registers (1 to 16)"
   pub few-registers : length (f .registers) ≤ 16
-  few-registers = omega (arith, frame-shaped .size, method .registers-to)
+  few-registers = registers-few p (h .formed) s (h .shaped) f rest (h .here .frames) (h .here .inside)
 
   pub low : length rest < 32
   low = omega (arith, h .lies .few-frames, ap (λ (fs : List state.Frame). length fs) (h .here .frames))
@@ -77,35 +91,15 @@ module _ {p : Program} {s : State} {before : Lent} {k : Tally} {now : Lent} {f :
   -- past the registers null is read
   pub register-is : (r : ℕ) → getD (registersOf (getD (now .frames) (length rest) absentFrame)) r zeroValue ≡ cellOf (register f r)
   register-is r =
-      ap (λ (g : Frame). getD (registersOf g) r zeroValue) top-is
-      ∙ by-test (ltb r 16)
-      (λ t. register-read f r zeroValue (ltb-true r 16 t))
-      (λ t. past (ltb-false r 16 t))
-    where
-      past : 16 ≤ r → getD (registersOf (frameOf f)) r zeroValue ≡ cellOf (register f r)
-      past l =
-          List·getD-eq-default (registersOf (frameOf f)) zeroValue {n = r} (omega (arith, l))
-          ∙ sym (ap cellOf (List·getD-eq-default (f .registers) null {n = r} (omega (arith, l, few-registers))))
+      ap (λ (g : Frame). getD (registersOf g) r zeroValue) top-is ∙ register-any f r few-registers
 
   pub result-is : getD (map resultOf (now .frames)) (length rest) zeroValue ≡ cellOf (f .result)
-  result-is = part-read resultOf (now .frames) (length rest) absentFrame ∙ ap resultOf top-is
+  result-is = List·getD-map resultOf (now .frames) (length rest) absentFrame ∙ ap resultOf top-is
 
   -- ---- the objects and the statics
 
   pub object-is : (o : ℕ) (d : Object) → o < length (s .objects) → getD (now .objects) o d ≡ objectOf (objectAt s o)
-  object-is o d l =
-      ap (λ (os : List Object). getD os o d) (h .lies .objects)
-      ∙ object-read s (before .objects) d o l (h .lies .few-objects) (h .roomy .objects)
-
-  pub class-is : (v : machine.Value) → Known (length (s .objects)) v
-      → getD (map classOf (now .objects)) (objectPlace (cellOf v)) 64 ≡ state.classOf s v
-  class-is (Number z) l =
-      part-read classOf (now .objects) 18446744073709551615 (withClass absentObject 64)
-      ∙ ap classOf
-      (read-nowhere (now .objects) (withClass absentObject 64)
-      (omega (arith, ap (λ (os : List Object). length os) (h .lies .objects), objects-length s (before .objects), h .roomy .objects-end)))
-  class-is (Reference o) l =
-      part-read classOf (now .objects) o (withClass absentObject 64) ∙ ap classOf (object-is o (withClass absentObject 64) l)
+  object-is = object-lies (h .roomy) (h .lies)
 
   pub cell-is : (o x : ℕ) → o < length (s .objects) → x < fieldCount p
       → getD (cellsOf (getD (now .objects) o absentObject)) x zeroValue ≡ cellOf (cell s o x)
@@ -154,7 +148,7 @@ module _ {p : Program} {s : State} {before : Lent} {k : Tally} {now : Lent} {f :
   unfolding wantOf
   class-read =
       ap (λ (c : Value). getD (map classOf (now .objects)) (objectPlace c) 64) first-read
-      ∙ class-is first (frame-shaped .known (wantOf site .first))
+      ∙ value-class (h .roomy) (h .lies) first (frame-shaped .known (wantOf site .first))
 
   pub cell-loaded : (o x : ℕ) → first ≡ Reference o → wantOf site .field ≡ x → o < length (s .objects) → x < fieldCount p
       → cellIn now site ≡ cellOf (cell s o x)

@@ -28,7 +28,8 @@ belowOf depth = pick (ltb 1 depth) (depth - 2) nowhere
 abbrev pub nextLeft : ℕ → ℕ
 nextLeft n = n - 1
 
--- a virtual call looks at the register of field c, others at that of field a
+-- a virtual call looks at the register of field c, others at that of field a; where there is no frame, method and address are ones
+-- that no program has
 unfoldable pub lookOf : At → Look
 lookOf h =
     record {

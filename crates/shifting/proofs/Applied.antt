@@ -42,6 +42,7 @@ use Rattle.drive.specs.Models.{Lent}
 use Rattle.turns.specs.Turns.{Shifting, shiftIn, shiftDone, belowIn, valueIn, classIn, makeShifting, staticShifting, virtualShifting, leaveShifting, throwShifting, makeDone, staticDone, virtualDone, leaveDone, throwDone, fromThrow, fromExit, fromVirtual, applied}
 use Rattle.lies.specs.Lies.{statusOf, Roomy, Lies}
 use Rattle.lies.specs.Staying.{siteAt}
+use Rattle.lies.proofs.Registers.{registers-few}
 use Rattle.shifting.specs.Shifting.{Come, Shifted, written, Topped, Leaving}
 use Rattle.shifting.proofs.Looked.{below-in, value-in, class-in}
 use Rattle.shifting.proofs.Written.{done-written}
@@ -61,14 +62,6 @@ running-status (Failed f) e = never (cc)
 neither : (a b : Bool) → (a || b) ≡ false → (a ≡ false) × (b ≡ false)
 neither true b e = never (cc)
 neither false b e = (refl, e)
-
--- a top frame's registers, at an address inside its method
-pub few-registers : (p : Program) → Formed p → (s : State) → Shaped p s → (f : Frame) (rest : List Frame) → s .frames ≡ f ∷ rest
-    → f .address < codeLength p (f .method) → length (f .registers) ≤ 16
-few-registers p formed s shaped f rest e inside =
-    let size : length (f .registers) ≡ registers p (f .method) = top-shaped p s shaped f rest e .0 .size in
-    let few : registers p (f .method) ≤ 16 = formed .methods (f .method) (method-exists p (f .method) (f .address) inside) .registers-to in
-    omega (arith, size, few)
 
 -- ---- an effect
 
@@ -97,7 +90,7 @@ module _ (t : List ℕ) (formed : Formed (programIn t)) (s : State) (before : Le
     (f : Frame) (rest : List Frame) (at : continues.At (programIn t) s running f rest) (h : At) (come : Come (programIn t) f h)
     (going : h .run .stop ≡ stop.No) (lies : Lies s before (h .run .tally) now) where
   small : length (f .registers) ≤ 16
-  small = few-registers (programIn t) formed s shaped f rest (at .frames) (at .inside)
+  small = registers-few (programIn t) formed s shaped f rest (at .frames) (at .inside)
 
   run : h .run .tally .status ≡ Running
   run = running-status (h .run .tally .status) (lies .status ∙ at .status)

@@ -4,22 +4,16 @@ use mathlib.Core.List.{List, [], _∷_, map}
 use Prim.Native.Nat.{ℕ, zero, suc, _≤_, _<_}
 use native.Mathlib.Nat.{not-suc-le-zero, le-of-suc-le-suc}
 use native.Mathlib.Omega.{arith}
-use lib.Dec.{ltb}
-use lib.ListN.{length, getD, List·getD-eq-default}
-use borrow.Author.Tests.{ltb-true, ltb-false, lt-ltb, le-ltb}
-use Rattle.text.proofs.Cases.{by-test}
-use Rattle.program.proofs.Lists.{getD-tab-out}
+use lib.ListN.{length, getD}
+use borrow.Author.Tests.{lt-ltb, le-ltb}
 use Rattle.machine.specs.declared.Value as machine
-use Rattle.machine.specs.declared.Value.the-variants.{Number, Reference}
 use Rattle.machine.specs.State as state
-use Rattle.machine.specs.State.{Frame, State, null, register, objectAt}
+use Rattle.machine.specs.State.{Frame, State, register, objectAt}
 use Rattle.machine.specs.Shaped.{Known}
-use Rattle.cells.specs.Cells.{cellOf, zeroValue, frameOf, framesOf, objectsOf}
-use Rattle.cells.specs.Reads.{objectPlace}
-use Rattle.store.specs.Store.{absentFrame, absentObject, methodOf, addressOf, registersOf, classOf}
-use Rattle.laid.proofs.Parts.{register-read}
+use Rattle.cells.specs.Cells.{cellOf, framesOf}
+use Rattle.store.specs.Store.{absentFrame, methodOf, addressOf}
+use Rattle.laid.proofs.Parts.{register-any}
 use Rattle.laid.proofs.Frames.{frames-length, top-read, below-read}
-use Rattle.laid.proofs.Objects.{objects-length, object-read}
 use Rattle.turn.specs.declared.Status.the-variants.{Running, Raised}
 use Rattle.site.specs.Work.{nowhere}
 use Rattle.shift.specs.declared.At.{At}
@@ -27,6 +21,7 @@ use Rattle.shift.specs.Places.{topOf, belowOf, lookOf}
 use Rattle.drive.specs.Models.{Lent}
 use Rattle.turns.specs.Turns.{methodIn, addressIn, belowIn, valueIn, classIn}
 use Rattle.lies.specs.Lies.{Roomy, Lies}
+use Rattle.lies.proofs.Values.{object-class, value-class}
 
 -- ---- places
 
@@ -46,11 +41,6 @@ module _ {A B : Type 0} (g : A → B) where
   part-read [] i d e l = absurd (not-suc-le-zero l)
   part-read (x ∷ xs) zero d e l = refl
   part-read (x ∷ xs) (suc i) d e l = part-read xs i d e (le-of-suc-le-suc l)
-
-  part-past : (xs : List A) (i : ℕ) (d : B) → length xs ≤ i → getD (map g xs) i d ≡ d
-  part-past [] i d l = refl
-  part-past (x ∷ xs) zero d l = absurd (not-suc-le-zero l)
-  part-past (x ∷ xs) (suc i) d l = part-past xs i d (le-of-suc-le-suc l)
 
 -- ---- what is read
 
@@ -86,15 +76,7 @@ module _ (s : State) (before now : Lent) (roomy : Roomy before) (h : At) (lies :
     unfolding lookOf
     value-in few =
         rw (lies .frames, top-of (h .run .tally .depth) (length rest) (deep (f ∷ rest) e), top-read s (before .frames) absentFrame f rest e (shallow (f ∷ rest) e) (roomy .frames))
-        (at (lookOf h .first))
-      where
-        at : (r : ℕ) → getD (registersOf (frameOf f)) r zeroValue ≡ cellOf (register f r)
-        at r =
-            by-test (ltb r 16)
-            (λ t. register-read f r zeroValue (ltb-true r 16 t))
-            (λ t.
-            getD-tab-out 16 (λ i. cellOf (register f i)) r zeroValue (ltb-false r 16 t)
-            ∙ ap cellOf (sym (List·getD-eq-default (f .registers) null (omega (arith, few, ltb-false r 16 t)))))
+        (register-any f (lookOf h .first) few)
 
   pub below-in : (f g : Frame) (rest : List Frame) → s .frames ≡ f ∷ g ∷ rest → belowIn now h ≡ g .address
   unfolding lookOf
@@ -105,26 +87,12 @@ module _ (s : State) (before now : Lent) (roomy : Roomy before) (h : At) (lies :
       (part-read addressOf (framesOf s (before .frames)) (length rest) 4294967295 absentFrame (omega (arith, size, few, roomy .frames))
       ∙ ap addressOf (below-read s (before .frames) absentFrame f g rest e few (roomy .frames)))
 
-  -- the class of an object, and of a value
-  object-class : (o : ℕ) → o < length (s .objects) → getD (map classOf (now .objects)) o 64 ≡ objectAt s o .class
-  object-class o l =
-      let size : length (objectsOf s (before .objects)) ≡ length (before .objects) = objects-length s (before .objects) in
-      rw (lies .objects)
-      (part-read classOf (objectsOf s (before .objects)) o 64 absentObject (omega (arith, size, l, lies .few-objects, roomy .objects))
-      ∙ ap classOf (object-read s (before .objects) absentObject o l (lies .few-objects) (roomy .objects)))
-
-  value-class : (v : machine.Value) → Known (length (s .objects)) v → getD (map classOf (now .objects)) (objectPlace (cellOf v)) 64 ≡ state.classOf s v
-  value-class (Number z) k =
-      let size : length (objectsOf s (before .objects)) ≡ length (before .objects) = objects-length s (before .objects) in
-      rw (lies .objects) (part-past classOf (objectsOf s (before .objects)) nowhere 64 (omega (arith, size, roomy .objects-end)))
-  value-class (Reference o) k = object-class o k
-
   -- the one in the register, and the pending one
   pub class-in : (v : machine.Value) → valueIn now h ≡ cellOf v → h .run .tally .status ≡ Running → Known (length (s .objects)) v
       → classIn now h ≡ state.classOf s v
   unfolding lookOf
-  class-in v e r k = rw (r, e) (value-class v k)
+  class-in v e r k = rw (r, e) (value-class roomy lies v k)
 
   pub class-raised : (o : ℕ) → h .run .tally .status ≡ Raised o → o < length (s .objects) → classIn now h ≡ objectAt s o .class
   unfolding lookOf
-  class-raised o r l = rw r (object-class o l)
+  class-raised o r l = rw r (object-class roomy lies o l)

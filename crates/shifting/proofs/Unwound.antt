@@ -39,7 +39,7 @@ use Rattle.shifting.proofs.Looked.{method-in, address-in, class-raised}
 use Rattle.shifting.proofs.Written.{done-written}
 use Rattle.shifting.proofs.Ways.{raised-stop, stops}
 use Rattle.shifting.proofs.Left.{caught-lies, drop-lies}
-use Rattle.shifting.proofs.Applied.{few-registers}
+use Rattle.lies.proofs.Registers.{registers-few}
 
 raised-status : (x : Status) (o : ℕ) → statusOf x ≡ raised o → x ≡ Raised o
 raised-status Running o e = never (cc)
@@ -81,7 +81,7 @@ module _ (t : List ℕ) (formed : Formed (programIn t)) (s : State) (before : Le
         lies = lies;
         going = going;
         frames = at .frames;
-        small = few-registers p formed s shaped f rest (at .frames) (at .inside);
+        small = registers-few p formed s shaped f rest (at .frames) (at .inside);
       })
       (handlingAt p s f o)
       (step-raised p s f rest o at)
