@@ -1,6 +1,5 @@
 -- The arithmetic of signed 32-bit numbers. Document 01 lets Android's page on Dalvik bytecode decide it; that page is not among
--- its papers and is not quoted here. The marked cases of document 01 hold by computation (proofs/Examples.antt). Definitions
--- only.
+-- its papers and is not quoted here. The marked cases of document 01 hold by computation (crates/marked). Definitions only.
 use mathlib.Core.Bool.{Bool, true, false, not}
 use Prim.Native.Nat.{ℕ, zero, suc, _*_, _-_, _/_, _%_, _^_}
 use lib.Bits.{bitAnd, bitOr, bitXor}

@@ -70,8 +70,6 @@ samples : List Row
 samples =
     row (bounded sampleProgram 0) 22 (0 ∷ 1 ∷ 0 ∷ []) 0 0
     ∷ row (bounded sampleProgram 1) 22 (1 ∷ 2 ∷ 0 ∷ []) 1 0
-    -- "n = 2: number 22, one frame, address 1"
-    ∷ row (bounded sampleProgram 2) 22 (2 ∷ 1 ∷ 0 ∷ []) 0 1
     -- "The run is done after 3 steps"
     ∷ row (bounded sampleProgram 3) 32 (3 ∷ 0 ∷ 0 ∷ []) 0 0
     ∷ row (bounded sampleProgram 9) 32 (3 ∷ 0 ∷ 0 ∷ []) 0 0

@@ -1,5 +1,5 @@
 -- What `step` makes of the slices that are lent to it, by computation: how many are enough, what a refusal leaves, and the sample in
--- two steps. Assumes nothing.
+-- one step. Assumes nothing.
 use mathlib.Core.Path.{_≡_, refl, ap}
 use mathlib.Core.Bool.{true, false}
 use mathlib.Core.List.{List, [], _∷_}
@@ -7,8 +7,8 @@ use Prim.Native.Nat.{ℕ}
 use lib.IntN.{pos}
 use lib.ListN.{getD, replicate}
 use Rattle.instruction.specs.Word.{instructionOf, fieldsOf}
-use Rattle.reader.proofs.Texts.{bytesOf}
-use Rattle.reader.proofs.Examples.{sample, sampleProgram, sample-reads}
+use Rattle.reader.specs.Sample.{bytesOf, sample}
+use Rattle.reader.proofs.Examples.{sampleProgram, sample-reads}
 use Rattle.machine.specs.Run.{step}
 use Rattle.turn.specs.Stop.{stopOf}
 use Rattle.cells.specs.declared.Value.{Value}
@@ -39,7 +39,7 @@ untouched before = refl
 untouched-refused : (number line : ℕ) (before : List Frame) → framesLeft (turnedDown number line) before ≡ before
 untouched-refused number line before = refl
 
--- ---- the sample in two steps, in slices of other values, one frame and one static more than asked
+-- ---- the sample in one step, in slices of other values, one frame and one static more than asked
 abbrev other : Value
 other = record { object = 7; number = pos 7 }
 
@@ -49,30 +49,30 @@ frames = replicate 33 (record { method = 7; address = 7; registers = replicate 1
 abbrev objects : List Object
 objects = replicate 256 (record { class = 7; cells = replicate 16 other })
 
-abbrev two : Stepping
-two = lending (bytesOf sample) 2 frames objects (replicate 17 other)
+abbrev one : Stepping
+one = lending (bytesOf sample) 1 frames objects (replicate 17 other)
 
-ran-two : two ≡ ran (bounded sampleProgram 2)
+ran-one : one ≡ ran (bounded sampleProgram 1)
 unfolding lending
-ran-two = rw sample-reads refl
+ran-one = rw sample-reads refl
 
-two-number : steppingNumber two ≡ 22
+one-number : steppingNumber one ≡ 22
 unfolding bounded steps stopOf step instructionOf fieldsOf
-two-number = ap steppingNumber ran-two
+one-number = ap steppingNumber ran-one
 
-two-values : steppingValues two ≡ 2 ∷ 1 ∷ 0 ∷ []
+one-values : steppingValues one ≡ 1 ∷ 2 ∷ 0 ∷ []
 unfolding bounded steps stopOf step instructionOf fieldsOf
-two-values = ap steppingValues ran-two
+one-values = ap steppingValues ran-one
 
--- frame 0 is of method 0 at address 1
-two-frame : getD (framesLeft two frames) 0 zeroFrame ≡ record { method = 0; address = 1; registers = replicate 16 zeroValue; result = zeroValue }
+-- frame 1 is of method 1 at address 0
+one-frame : getD (framesLeft one frames) 1 zeroFrame ≡ record { method = 1; address = 0; registers = replicate 16 zeroValue; result = zeroValue }
 unfolding bounded steps stopOf step instructionOf fieldsOf framesOf
-two-frame = ap (λ x. getD (framesLeft x frames) 0 zeroFrame) ran-two
+one-frame = ap (λ x. getD (framesLeft x frames) 1 zeroFrame) ran-one
 
-beyond-frames : getD (framesLeft two frames) 32 zeroFrame .method ≡ 7
+beyond-frames : getD (framesLeft one frames) 32 zeroFrame .method ≡ 7
 unfolding bounded steps stopOf step instructionOf fieldsOf framesOf
-beyond-frames = ap (λ x. getD (framesLeft x frames) 32 zeroFrame .method) ran-two
+beyond-frames = ap (λ x. getD (framesLeft x frames) 32 zeroFrame .method) ran-one
 
-beyond-statics : getD (staticsLeft two (replicate 17 other)) 16 zeroValue ≡ other
+beyond-statics : getD (staticsLeft one (replicate 17 other)) 16 zeroValue ≡ other
 unfolding bounded steps stopOf step instructionOf fieldsOf staticsOf
-beyond-statics = ap (λ x. getD (staticsLeft x (replicate 17 other)) 16 zeroValue) ran-two
+beyond-statics = ap (λ x. getD (staticsLeft x (replicate 17 other)) 16 zeroValue) ran-one

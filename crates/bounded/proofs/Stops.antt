@@ -17,7 +17,7 @@ use Rattle.machine.specs.declared.Effect.{Effect}
 use Rattle.machine.specs.declared.Effect.the-variants.{Next, Jump, Write, Load, LoadStatic, Make, Store, StoreStatic, Call, Exit, Raise, Fail}
 use Rattle.machine.specs.State.{Frame, Status, running, raised, done, uncaught, failed, State, objectAt}
 use Rattle.machine.specs.Run.{fresh, stored, apply, unwound, stepBy, step}
-use Rattle.machine.proofs.Elements.{pick-cases}
+use Rattle.instruction.proofs.Flags.{pick-cases}
 use Rattle.machine.proofs.Continues.{effectAt, handlingAt, At, Ended}
 use Rattle.machine.proofs.History.{Calling}
 use Rattle.turn.specs.declared.Halt.{Halt}

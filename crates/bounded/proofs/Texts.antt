@@ -9,8 +9,8 @@ use Rattle.text.specs.Hex.{linesOf, whole, allDigits, digitOf, numberFrom}
 use Rattle.instruction.specs.Word.{instructionOf, fieldsOf}
 use Rattle.frame.specs.Frame.{kindOf}
 use Rattle.reader.specs.Read.{refused, lineKind, readLines, valued, readProgram}
-use Rattle.reader.proofs.Texts.{bytesOf}
-use Rattle.reader.proofs.Examples.{sample, sampleProgram, sample-reads}
+use Rattle.reader.specs.Sample.{bytesOf, sample}
+use Rattle.reader.proofs.Examples.{sampleProgram, sample-reads}
 use Rattle.machine.specs.Run.{step}
 use Rattle.memory.specs.Memory.{framesOf, staticsOf, frameWord}
 use Rattle.turn.specs.Stop.{stopOf}
@@ -18,36 +18,36 @@ use Rattle.bounded.specs.Bounded.{steps, bounded}
 use Rattle.bounded.specs.Step.{Stepping, turnedDown, short, ran, stepping, steppingNumber, steppingValues, framesAfter, staticsAfter}
 use Rattle.bounded.proofs.Laws.{Untouched, text-refused, refused-untouched, memory-short, program-ran}
 
--- ---- the sample in two steps, in memory of sevens, two words more than asked of each
+-- ---- the sample in one step, in memory of sevens, two words more than asked of each
 abbrev sevens : ℕ → List ℕ
 sevens n = replicate n 7
 
-abbrev two : Stepping
-two = stepping (bytesOf sample) 2 (sevens 610) (sevens 4354) (sevens 18)
+abbrev one : Stepping
+one = stepping (bytesOf sample) 1 (sevens 610) (sevens 4354) (sevens 18)
 
-ran-two : two ≡ ran (bounded sampleProgram 2)
-ran-two =
-    program-ran (bytesOf sample) 2 (sevens 610) (sevens 4354) (sevens 18) sampleProgram sample-reads
+ran-one : one ≡ ran (bounded sampleProgram 1)
+ran-one =
+    program-ran (bytesOf sample) 1 (sevens 610) (sevens 4354) (sevens 18) sampleProgram sample-reads
     (omega (arith, length-replicate {A = ℕ} 610 7))
     (omega (arith, length-replicate {A = ℕ} 4354 7))
     (omega (arith, length-replicate {A = ℕ} 18 7))
 
-two-number : steppingNumber two ≡ 22
+one-number : steppingNumber one ≡ 22
 unfolding bounded steps stopOf step instructionOf fieldsOf
-two-number = ap steppingNumber ran-two
+one-number = ap steppingNumber ran-one
 
-two-values : steppingValues two ≡ 2 ∷ 1 ∷ 0 ∷ []
+one-values : steppingValues one ≡ 1 ∷ 2 ∷ 0 ∷ []
 unfolding bounded steps stopOf step instructionOf fieldsOf
-two-values = ap steppingValues ran-two
+one-values = ap steppingValues ran-one
 
--- frame 0 is of method 0 at address 1
-two-frames : framesAfter two (sevens 610) ≡ 0 ∷ 1 ∷ replicate 606 0 ++ 7 ∷ 7 ∷ []
+-- frame 0 is of method 0 and frame 1 of method 1, both at address 0
+one-frames : framesAfter one (sevens 610) ≡ replicate 19 0 ++ 1 ∷ replicate 588 0 ++ 7 ∷ 7 ∷ []
 unfolding bounded steps stopOf step instructionOf fieldsOf framesOf frameWord
-two-frames = ap (λ x. framesAfter x (sevens 610)) ran-two
+one-frames = ap (λ x. framesAfter x (sevens 610)) ran-one
 
-two-statics : staticsAfter two (sevens 18) ≡ replicate 16 0 ++ 7 ∷ 7 ∷ []
+one-statics : staticsAfter one (sevens 18) ≡ replicate 16 0 ++ 7 ∷ 7 ∷ []
 unfolding bounded steps stopOf step instructionOf fieldsOf staticsOf
-two-statics = ap (λ x. staticsAfter x (sevens 18)) ran-two
+one-statics = ap (λ x. staticsAfter x (sevens 18)) ran-one
 
 -- ---- "23: fewer than 32 frames, 256 objects of 16 cells or 16 statics": a word too few of each
 abbrev lending : ℕ → ℕ → ℕ → Stepping

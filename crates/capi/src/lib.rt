@@ -4,12 +4,17 @@ use cells::Frame;
 use cells::Object;
 use cells::Value;
 ghost use mathlib.Core.Path.{_≡_};
+ghost use Prim.Native.Nat.{ℕ};
 ghost use lib.ListN.{length};
+ghost use Rattle.verdict.specs.declared.Verdict.the-variants.{Accepted};
+ghost use Rattle.verdict.specs.Numbers.{numberOf, valuesOf};
 ghost use Rattle.reader.specs.Read.{readProgram, readingNumber};
 ghost use Rattle.bounded.specs.Step.{steppingNumber, steppingValues};
 ghost use Rattle.bounded.specs.Lent.{lending, framesLeft, objectsLeft, staticsLeft};
 ghost use Rattle.answer.specs.Words.{answered, verdictAnswered};
+ghost use Rattle.calls.specs.Bytes.{callsIn};
 ghost use Rattle.checker.specs.Check.{checking, checkingNumber, checkingValues, memoryAfter};
+ghost use Rattle.checker.specs.Coverage.{Coverage};
 
 // The number of a program text: 0 where it is read, else its refusal's.
 #[no_mangle]
@@ -52,6 +57,7 @@ pub extern "C" fn hudzmoke_check(
     ensures number { λ r. ⌜ r ≡ checkingNumber (checking (now (program .entry)) (now (claim .entry)) (length (now (memory .entry)))) ⌝ }
     ensures answer { λ r. ⌜ now (answer .exit) ≡ verdictAnswered (checkingNumber (checking (now (program .entry)) (now (claim .entry)) (length (now (memory .entry))))) (checkingValues (checking (now (program .entry)) (now (claim .entry)) (length (now (memory .entry))))) (now (answer .entry)) ⌝ }
     ensures memory { λ r. ⌜ now (memory .exit) ≡ memoryAfter (checking (now (program .entry)) (now (claim .entry)) (length (now (memory .entry)))) (now (memory .entry)) ⌝ }
+    ensures coverage { λ r. ⌜ ((k : ℕ) → r ≡ numberOf (Accepted k) → checkingValues (checking (now (program .entry)) (now (claim .entry)) (length (now (memory .entry)))) ≡ valuesOf (Accepted k) → Coverage (now (program .entry)) (now (claim .entry)) (callsIn k (now (memory .exit)))) ⌝ }
 {
     let verdict = checker::check(program, claim, memory);
     answer::put_verdict(answer, verdict)

@@ -8,7 +8,7 @@ use borrow.Author.Tests.{lt-ltb}
 use Rattle.instruction.specs.declared.Instruction.{Instruction}
 use Rattle.instruction.specs.declared.Instruction.the-variants.{Nop, Move, Const, Goto, If, IfZero, Binop, Unop, NewInstance, Iget, Iput, Sget, Sput, InvokeVirtual, InvokeStatic, MoveResult, MoveException, Return, ReturnVoid, Throw, InstanceOf, CheckCast}
 use Rattle.instruction.specs.Test.{Holds as TestHolds}
-use Rattle.instruction.proofs.Flags.{or-right}
+use Rattle.instruction.proofs.Flags.{or-right, pick-cases}
 use Rattle.mask.specs.Mask.{zeroBit, otherBit, has}
 use Rattle.operands.specs.Names.{named}
 use Rattle.arithmetic.specs.Arithmetic.{isZero}
@@ -16,7 +16,6 @@ use Rattle.program.specs.Program.{Program, classCount, instructionAt}
 use Rattle.program.specs.Lists.{Every}
 use Rattle.values.specs.Values.{limitsOf}
 use Rattle.reader.specs.Formed.{Formed}
-use Rattle.machine.proofs.Elements.{pick-cases}
 use Rattle.flow.specs.Claim.{Slot, registerAt, resultAt, fieldOf, staticOf, returnedBy, leaving, Claim, numberBit}
 use Rattle.flow.specs.Flows.{_⊆_, Holds}
 use Rattle.flow.specs.Rules.{initialMemory, entry, carried, onward, onwardExcept, numbersInto, intoHandler, intoLeaving, rulesOf}

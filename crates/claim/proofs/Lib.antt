@@ -10,6 +10,7 @@ pub mod LineKinds
 pub mod LineTaken
 pub mod FrameTaken
 pub mod FrameLists
+pub mod Numbers
 pub mod Outcome
 pub mod FullPlaces
 pub mod OnlyAllowed

@@ -1,7 +1,6 @@
 -- From the walk by line to what `read` answers and leaves in the words. Assumes nothing.
 use mathlib.Core.Path.{_≡_, refl, sym, ap, subst, _∙_}
 use mathlib.Core.List.{List, [], _∷_}
-use mathlib.Core.Option.{Option, none, some}
 use Prim.Native.Nat.{ℕ, _≤_, _<_}
 use native.Mathlib.Omega.{arith}
 use lib.Dec.{eqb}
@@ -14,37 +13,10 @@ use Rattle.slots.specs.Layout.{noMasks}
 use Rattle.claim.specs.declared.Answer.{Answer}
 use Rattle.claim.specs.declared.Answer.the-variants.{Read, TooLong}
 use Rattle.claim.specs.declared.Status.{Status}
-use Rattle.claim.specs.Frames.{Due, framesDue}
-use Rattle.claim.specs.ReadClaim.{refused, taken, known, isDue, head, masksFrom, Progress, stopped, reached, onward, takeFrame, takeFrames, ended, readClaim, readingNumber, readingValues, masksAfter, numberOf, valuesOf}
+use Rattle.claim.specs.Frames.{framesDue}
+use Rattle.claim.specs.ReadClaim.{refused, taken, known, stopped, reached, takeFrames, ended, readClaim, readingNumber, readingValues, masksAfter, numberOf, valuesOf}
 use Rattle.claim.specs.Inside.{progressOf, lastNumber, answerOf}
-
--- ---- the numbers of refusals by line
-abbrev Numbered : Progress → Type 0
-Numbered (stopped number line) = (10 ≤ number) × (number ≤ 13)
-Numbered (reached ls n ws) = Unit {0}
-
-onward-numbered : (ls : List Line) (n : ℕ) (o : Option (List ℕ)) → Numbered (onward ls n o)
-onward-numbered ls n none = (omega arith, omega arith)
-onward-numbered ls n (some ws) = tt
-
-frame-numbered : (p : Program) (d : Due) (s : Progress) → Numbered s → Numbered (takeFrame p d s)
-unfolding takeFrame
-frame-numbered p d (stopped number line) h = h
-frame-numbered p d (reached [] n ws) h = (omega arith, omega arith)
-frame-numbered p d (reached (l ∷ ls) n ws) h =
-    by-test (whole l)
-    (λ a.
-    by-test (known l)
-    (λ b.
-    by-test (isDue d l)
-    (λ c. rw (a, b, c) (onward-numbered ls n (masksFrom p l (head d) (d .slots) ws)))
-    (λ c. rw (a, b, c) (omega arith, omega arith)))
-    (λ b. rw (a, b) (omega arith, omega arith)))
-    (λ a. rw a (omega arith, omega arith))
-
-frames-numbered : (p : Program) (ds : List Due) (s : Progress) → Numbered s → Numbered (takeFrames p ds s)
-frames-numbered p [] s h = h
-frames-numbered p (d ∷ ds) s h = frames-numbered p ds (takeFrame p d s) (frame-numbered p d s h)
+use Rattle.claim.proofs.Numbers.{Stopping, frames-stopping}
 
 -- each number has its answer
 answer-of : (number line : ℕ) → 10 ≤ number → number ≤ 13
@@ -108,8 +80,8 @@ module _ (p : Program) (text before : List ℕ) where
     unfolding ended
     told-stopped a h f =
         let s : progressOf text c ws ≡ stopped (c .number) (c .place .line) = rw (ne-eqb (c .number) 0 h) in
-        let k : Numbered (stopped (c .number) (c .place .line)) =
-        subst Numbered (sym w ∙ s) (frames-numbered p (framesDue p) (reached (linesOf text) 1 none) tt) in
+        let k : Stopping (stopped (c .number) (c .place .line)) =
+        subst Stopping (sym w ∙ s) (frames-stopping p (framesDue p) (reached (linesOf text) 1 none) tt) in
         told-refused (c .number) (c .place .line) a (read-is ∙ ap ended s) (k .0) (k .1) f
 
     module _ (z : c .number ≡ 0) (more : ℕ) (e : more ≡ lastNumber (linesOf (drop (c .place .at) text))) where

@@ -13,12 +13,12 @@ use Rattle.text.specs.Hex.{linesOf, whole, allDigits, digitOf, numberFrom}
 use Rattle.mask.specs.Mask.{has, subset}
 use Rattle.program.specs.Program.{Program}
 use Rattle.search.specs.Search.{belowIn, hasField}
-use Rattle.reader.proofs.Texts.{bytesOf}
+use Rattle.reader.specs.Sample.{bytesOf}
 use Rattle.reader.proofs.Examples.{sampleProgram}
 use Rattle.claim.specs.Allowed.{fullClaim}
 use Rattle.claim.specs.Frames.{partDue, framesDue}
 use Rattle.claim.specs.ReadClaim.{Reading, refused, taken, digitsFrom, known, isDue, masksFrom, takeFrame, ended, readClaim}
-use Rattle.claim.proofs.SampleClaim.{zeros, none, addresses, results, exceptions, sampleClaim}
+use Rattle.claim.specs.Sample.{zeros, none, addresses, results, exceptions, sampleClaim}
 
 -- ---- masks as they stand in a text: all bits of a program of two classes, its class bits
 abbrev all : String

@@ -31,7 +31,7 @@ use Rattle.machine.specs.declared.Value.the-variants.{Number, Reference}
 use Rattle.machine.specs.State.{Frame, State, null, register, objectAt, classOf}
 use Rattle.machine.specs.Run.{moved, wrote, entered}
 use Rattle.machine.specs.Decide.{notObject, computedInto, binop, unop, compared, branch, getField, putField, callOf, virtualCall, throw, instanceOf, checkCast}
-use Rattle.machine.proofs.Elements.{pick-cases}
+use Rattle.instruction.proofs.Flags.{pick-cases}
 use Rattle.machine.proofs.Found.{callee-fits}
 use Rattle.machine.proofs.Fitting.{method-exists}
 use Rattle.flow.specs.Claim.{Slot, registerAt, fieldOf, Claim, numberBit}

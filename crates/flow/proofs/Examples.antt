@@ -19,24 +19,18 @@ use Rattle.flow.specs.Verdict.{accepted, violated, verdict}
 use Rattle.flow.specs.Calls.{callList}
 use Rattle.flow.proofs.Samples.{zeros, nonzeros, alike, plain, allBits, full, but, Row, row, allRight, calling, doing, allInstructions, made}
 
--- ---- the sample, and all allowed bits
-samples : List Row
-samples =
-    -- "every register, result and returned mask 4000000000000000 and both exception masks zero"
-    row sampleProgram plain accepted
-    -- "its result at method 0 address 1 made zero: `violated 07 00 00`"
-    ∷ row sampleProgram (but (resultAt 0 1) 0 plain) (violated 7 0 0)
-    -- "returned mask of 1 made zero: `violated 08 01 00`"
-    ∷ row sampleProgram (but (returnedBy 1) 0 plain) (violated 8 1 0)
+-- ---- all allowed bits
+fulls : List Row
+fulls =
     -- "a claim with all allowed bits is accepted"
-    ∷ row sampleProgram (allBits 2) accepted
+    row sampleProgram (allBits 2) accepted
     ∷ row allInstructions full accepted
     ∷ []
 
-samples-right : allRight samples ≡ true
-unfolding samples verdict has subset hasNumber instructionOf fieldsOf conditionOf operationOf unaryOf signedOf belowIn hasField
+full-right : allRight fulls ≡ true
+unfolding fulls verdict has subset hasNumber instructionOf fieldsOf conditionOf operationOf unaryOf signedOf belowIn hasField
     answers methodIn calleeIn catches handlerFor
-samples-right = refl
+full-right = refl
 
 -- ---- what is not asked: in each row, a rule that asked it would be broken
 unasked : List Row

@@ -18,7 +18,7 @@ use Rattle.machine.specs.declared.Value.{Value}
 use Rattle.machine.specs.declared.Value.the-variants.{Number, Reference}
 use Rattle.machine.specs.State.{Frame, Object, null, noObject, register}
 use Rattle.machine.specs.Run.{moved, wrote, entered}
-use Rattle.machine.proofs.Elements.{pick-cases}
+use Rattle.instruction.proofs.Flags.{pick-cases}
 use Rattle.flow.specs.Claim.{Slot, registerAt, resultAt, fieldOf, Claim}
 use Rattle.flow.specs.Flows.{Holds}
 use Rattle.flow.specs.Rules.{entry, onward, onwardExcept, parameter}

@@ -9,7 +9,7 @@ use Rattle.program.specs.Program.{Program, methodCount, codeLength}
 use Rattle.program.specs.Lists.{Every, joined}
 use Rattle.program.proofs.Every.{every-append, every-joined, every-map, every-swap}
 use Rattle.machine.specs.History.{Made}
-use Rattle.machine.proofs.Elements.{pick-cases}
+use Rattle.instruction.proofs.Flags.{pick-cases}
 use Rattle.flow.specs.Claim.{Claim}
 use Rattle.flow.specs.Rules.{rulesAt}
 use Rattle.flow.specs.Verdict.{by-first, by-second, by-third}

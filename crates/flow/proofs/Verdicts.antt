@@ -7,7 +7,7 @@ use native.Mathlib.Omega.{arith}
 use Rattle.text.proofs.Cases.{never}
 use Rattle.program.specs.Program.{Program, methodCount, codeLength}
 use Rattle.program.specs.Lists.{Every}
-use Rattle.machine.proofs.Elements.{pick-cases}
+use Rattle.instruction.proofs.Flags.{pick-cases}
 use Rattle.flow.specs.Claim.{Claim}
 use Rattle.flow.specs.Flows.{Holds, kept}
 use Rattle.flow.specs.Rules.{Rule, rulesAt, RuleHolds, RulesHold}

@@ -22,7 +22,7 @@ use Rattle.machine.specs.declared.Effect.{Effect}
 use Rattle.machine.specs.declared.Effect.the-variants.{Next, Jump, Write, Load, LoadStatic, Make, Store, StoreStatic, Call, Exit, Raise, Fail}
 use Rattle.machine.specs.State.{null}
 use Rattle.machine.specs.Decide.{notObject, computedInto, binop, unop, compared, branch, getField, putField, instanceOf, checkCast}
-use Rattle.machine.proofs.Elements.{pick-cases}
+use Rattle.instruction.proofs.Flags.{pick-cases}
 use Rattle.site.specs.declared.Site.{Site}
 use Rattle.site.specs.Site.{opcodeOf, aOf, bOf, cOf, dOf, wantOf}
 use Rattle.site.specs.Work.{decided, plainOf, branchOf, classedOf}

@@ -26,7 +26,7 @@ use Rattle.machine.specs.State.{Frame, running, failed, State}
 use Rattle.machine.specs.Run.{withStatus, step}
 use Rattle.machine.specs.Shaped.{Shaped}
 use Rattle.machine.proofs.Continues.{At, effectAt}
-use Rattle.machine.proofs.Elements.{pick-cases}
+use Rattle.instruction.proofs.Flags.{pick-cases}
 use Rattle.machine.proofs.Fitting.{decided-fits}
 use Rattle.turn.specs.declared.Tally.{Tally}
 use Rattle.turn.specs.declared.Status.the-variants.{Failed}

@@ -17,7 +17,7 @@ use Rattle.machine.specs.declared.Effect.the-variants.{Next, Jump, Write
 use Rattle.machine.specs.State.{Frame, Status, running, raised, done, uncaught, failed, State, objectAt}
 use Rattle.machine.specs.Decide.{decide}
 use Rattle.machine.specs.Run.{withStatus, apply, unwound, stepBy, step, run}
-use Rattle.machine.proofs.Elements.{pick-cases}
+use Rattle.instruction.proofs.Flags.{pick-cases}
 
 -- ---- the step
 -- the effect of a frame's instruction, and the handling of object o at a frame

@@ -35,7 +35,7 @@ use Rattle.machine.specs.State.{Frame, State, null, register, classOf}
 use Rattle.machine.specs.Decide.{notObject, computedInto, binop, unop, compared, branch, getField, putField, callOf, virtualCall, throw, instanceOf, checkCast, decide}
 use Rattle.program.specs.Lists.{Every}
 use Rattle.machine.specs.Shaped.{Known, ShapedFrame, Shaped, Fitting}
-use Rattle.machine.proofs.Elements.{pick-cases}
+use Rattle.instruction.proofs.Flags.{pick-cases}
 use Rattle.machine.proofs.Found.{callee-fits}
 
 -- past the last method there is no code

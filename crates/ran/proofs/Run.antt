@@ -11,7 +11,7 @@ use Rattle.program.specs.Tables.{programIn}
 use Rattle.reader.specs.Formed.{Formed}
 use Rattle.machine.specs.State.{State}
 use Rattle.machine.specs.Shaped.{Shaped}
-use Rattle.machine.proofs.Elements.{pick-cases}
+use Rattle.instruction.proofs.Flags.{pick-cases}
 use Rattle.turn.specs.declared.Status.the-variants as status
 use Rattle.bounded.specs.Bounded.{steps}
 use Rattle.site.specs.declared.How.{How}

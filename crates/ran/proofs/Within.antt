@@ -13,7 +13,7 @@ use Rattle.program.specs.Tables.{programIn}
 use Rattle.reader.specs.Formed.{Formed}
 use Rattle.machine.specs.State.{Frame, State, running}
 use Rattle.machine.proofs.Continues.{At}
-use Rattle.machine.proofs.Elements.{pick-cases}
+use Rattle.instruction.proofs.Flags.{pick-cases}
 use Rattle.turn.specs.declared.Status.the-variants.{Running}
 use Rattle.turn.specs.declared.Tally.{Tally}
 use Rattle.site.specs.declared.Gone.{Gone}

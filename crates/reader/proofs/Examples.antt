@@ -16,12 +16,9 @@ use Rattle.frame.specs.Frame.{kindOf}
 use Rattle.values.specs.Values.{alike, repeated, valueMark, instructionMark}
 use Rattle.marks.specs.Marks.{marksIn, methodMarks, marks, firstMark}
 use Rattle.reader.specs.Read.{Reading, refused, taken, lineKind, lineFields, readLines, judged, valued, readProgram}
-use Rattle.reader.proofs.Texts.{bytesOf}
+use Rattle.reader.specs.Sample.{bytesOf, sample}
 
 -- document 01's sample
-abbrev pub sample : String
-sample = "01ff\n0100\n040000010100\n060d01000000000000\n061100000000000000\n040001010100\n061100000000000000\n"
-
 abbrev pub sampleProgram : Program
 sampleProgram =
     record {

@@ -1,9 +1,9 @@
-pub mod Texts
 pub mod Examples
 pub mod Lines
 pub mod Fields
 pub mod Turn
 pub mod Outcome
+pub mod Numbers
 pub mod Steady
 pub mod WellFormed
 pub mod Answers

@@ -1,3 +1,4 @@
 pub mod Read
 pub mod Formed
 pub mod Inside
+pub mod Sample

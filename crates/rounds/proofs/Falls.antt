@@ -8,7 +8,7 @@ use lib.Dec.{T as Holds, ltb, ltb→lt}
 use Rattle.instruction.specs.Word.{pick}
 use Rattle.program.specs.Program.{codeLength}
 use Rattle.program.specs.Tables.{programIn}
-use Rattle.machine.proofs.Elements.{pick-cases}
+use Rattle.instruction.proofs.Flags.{pick-cases}
 use Rattle.site.specs.declared.How.{How}
 use Rattle.site.specs.declared.How.the-variants as how
 use Rattle.shift.specs.declared.Run.{Run}

@@ -20,7 +20,7 @@ use Rattle.machine.specs.declared.Fault.the-variants.{NullAsObject, NumberAsObj
 use Rattle.machine.specs.declared.Value as machine
 use Rattle.machine.specs.declared.Value.the-variants.{Number, Reference}
 use Rattle.machine.specs.Decide.{callOf, virtualCall, throw}
-use Rattle.machine.proofs.Elements.{pick-cases}
+use Rattle.instruction.proofs.Flags.{pick-cases}
 use Rattle.cells.specs.Cells.{valueOf}
 use Rattle.site.specs.declared.How.{How}
 use Rattle.site.specs.declared.How.the-variants as how

@@ -23,7 +23,7 @@ use Rattle.machine.specs.Run.{apply, step}
 use Rattle.machine.specs.Shaped.{Shaped, Fitting}
 use Rattle.machine.proofs.Continues as continues
 use Rattle.machine.proofs.Continues.{effectAt, step-running}
-use Rattle.machine.proofs.Elements.{pick-cases}
+use Rattle.instruction.proofs.Flags.{pick-cases}
 use Rattle.machine.proofs.Fitting.{method-exists, top-shaped, decided-fits}
 use Rattle.turn.specs.declared.Status.{Status}
 use Rattle.turn.specs.declared.Status.the-variants.{Running, Raised, Done, Uncaught, Failed}

@@ -15,7 +15,7 @@ use Rattle.machine.specs.declared.Effect.{Effect}
 use Rattle.machine.specs.declared.Value.{Value}
 use Rattle.machine.specs.declared.Value.the-variants.{Number, Reference}
 use Rattle.machine.specs.Decide.{notObject, callOf, virtualCall, throw}
-use Rattle.machine.proofs.Elements.{pick-cases}
+use Rattle.instruction.proofs.Flags.{pick-cases}
 use Rattle.site.specs.Site.{opcodeOf, aOf, bOf, cOf}
 use Rattle.shift.specs.declared.At.{At}
 use Rattle.shift.specs.Places.{lookOf}

@@ -14,7 +14,7 @@ use Rattle.program.specs.Program.{Program}
 use Rattle.machine.specs.declared.Value.{Value}
 use Rattle.machine.specs.State.{Frame, State, null, register, classOf}
 use Rattle.machine.specs.Decide.{decide}
-use Rattle.machine.proofs.Elements.{pick-cases}
+use Rattle.instruction.proofs.Flags.{pick-cases}
 use Rattle.site.specs.declared.Site.{Site}
 use Rattle.site.specs.Site.{opcodeOf, aOf, bOf, cOf, firstOf, secondOf, wantOf, leavesBy, leavesOf}
 use Rattle.site.specs.Work.{decided}

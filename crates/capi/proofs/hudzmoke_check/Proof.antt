@@ -1,5 +1,6 @@
 -- `capi::hudzmoke_check` meets its contract. Assumes nothing.
-use mathlib.Core.Path.{_∙_}
+use mathlib.Core.Path.{sym, _∙_}
+use Rattle.checker.proofs.Numbers.{accepted-by}
 use Rattle.capi.proofs.hudzmoke_check.Statement.{statement}
 use Rattle.capi.proofs.hudzmoke_check.Tie as tie
 
@@ -18,8 +19,17 @@ same-length-2 c = c .before .before .put-verdict .kept .0
 returns : tie.Need-returns
 returns c =
     let p = c .before .before .put-verdict in
-    let v = c .before .before .before .before .before .before .check .ensures in
-    (p .ensures .0 ∙ v .1 .0 .0, (rw (p .ensures .1, v .1 .0 .0, v .1 .0 .1), v .1 .1 .0))
+    let v = c .before .before .before .before .before .before .check .ensures in (
+      p .ensures .0 ∙ v .1 .0 .0,
+      (
+        rw (p .ensures .1, v .1 .0 .0, v .1 .0 .1),
+        (
+          v .1 .1 .0,
+          λ k e n.
+              v .1 .1 .1 k (v .0 ∙ accepted-by _ _ _ k (sym (p .ensures .0 ∙ v .1 .0 .0) ∙ e) n),
+        ),
+      ),
+    )
 
 pub hudzmoke-check-spec : {M : Type 1} → statement M
 hudzmoke-check-spec = tie.close (tie.spec check-requires put-verdict-requires same-length same-length-2 returns)

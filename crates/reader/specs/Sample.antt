@@ -1,4 +1,4 @@
--- Texts written as they stand, for examples. Assumes nothing.
+-- Document 01's sample program as its text, and texts as bytes. Definitions only.
 use mathlib.Core.List.{List, [] as nil, _∷_ as cons}
 use Prim.Native.Nat.{ℕ}
 use Prim.Native.Char.{code}
@@ -8,3 +8,7 @@ use Prim.Native.String.{String, [], _∷_}
 abbrev pub bytesOf : String → List ℕ
 bytesOf [] = nil
 bytesOf (c ∷ s) = cons (code c) (bytesOf s)
+
+-- document 01's sample
+abbrev pub sample : String
+sample = "01ff\n0100\n040000010100\n060d01000000000000\n061100000000000000\n040001010100\n061100000000000000\n"

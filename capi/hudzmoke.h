@@ -1,0 +1,93 @@
+/* The checker and the stepper of panel programs for programs in C and C++: link target/staticlib/libcapi.a (`rt staticlib capi`).
+ *
+ * Every function may be called with any bytes: it tests for itself all that it relies on, ends, uses no heap, keeps nothing between calls
+ * and may be called from several threads at once. docs/FORMATS.md says what texts, answers and memory mean.
+ *
+ * The caller's part, which no function can test:
+ * - Each pointer leads to as many elements as the length after it says, aligned as its type asks. With a length of 0 it is not used, and
+ *   may be null.
+ * - Slices that are lent for writing (frames, objects, statics, memory, answer) overlap neither each other nor a text. Buffers that
+ *   overlap are the caller's fault: nothing is promised then of any of them.
+ * - There is stack enough: 180 KB for hudzmoke_check, 20 KB for the others (measured).
+ */
+#ifndef HUDZMOKE_H
+#define HUDZMOKE_H
+
+#include <stddef.h>
+#include <stdint.h>
+
+#ifdef __cplusplus
+extern "C" {
+#endif
+
+/* A value: number z has object 0 and number z; object k has object k + 1 and number 0. */
+typedef struct {
+    uint32_t object;
+    int32_t number;
+} hudzmoke_value;
+
+/* A call frame. */
+typedef struct {
+    uint32_t method;
+    uint32_t address;
+    hudzmoke_value registers[16];
+    hudzmoke_value result;
+} hudzmoke_frame;
+
+/* An object: the number of its class, and field f in cell f. */
+typedef struct {
+    uint32_t class_number;
+    hudzmoke_value cells[16];
+} hudzmoke_object;
+
+/* The least lengths to lend, in elements. With fewer frames, objects, statics or bytes the number is HUDZMOKE_SHORT, with fewer words the
+ * answer is not written. */
+enum {
+    HUDZMOKE_FRAMES = 32,
+    HUDZMOKE_OBJECTS = 256,
+    HUDZMOKE_STATICS = 16,
+    HUDZMOKE_MEMORY = 24576,
+    HUDZMOKE_ANSWER = 5
+};
+
+/* The numbers that the functions give. 1 to 6 refuse a program text and 9 to 13 a claim text. */
+enum {
+    HUDZMOKE_READ = 0,        /* hudzmoke_read: a program */
+    HUDZMOKE_FULL_STORE = 20, /* new-instance at 256 objects */
+    HUDZMOKE_FULL_STACK = 21, /* a call at 32 frames */
+    HUDZMOKE_STEPS_MADE = 22, /* the steps asked for are made, and the run has not ended */
+    HUDZMOKE_SHORT = 23,      /* too little memory is lent */
+    HUDZMOKE_OUTSIDE = 24,    /* an address outside its method */
+    HUDZMOKE_DONE = 32,       /* the last frame returned */
+    HUDZMOKE_UNCAUGHT = 33,   /* the last frame was dropped */
+    HUDZMOKE_ACCEPTED = 34,   /* the claim meets every flow rule */
+    HUDZMOKE_VIOLATED = 35,   /* it breaks one */
+    HUDZMOKE_FAULT = 40       /* 41 to 48: fault 1 to 8 */
+};
+
+/* The number of a program text: HUDZMOKE_READ, or the refusal's. */
+uint64_t hudzmoke_read(const uint8_t *text, size_t text_length);
+
+/* Checks a claim about a program; the number of the verdict. The answer's words: that number; the count of calls, the rule or the line; the
+ * method; the address; 0. Words without a value are 0. If the claim is accepted, the calls stand at the front of memory, three bytes each:
+ * caller, address, callee. Nothing past them is touched, and nothing at all if the verdict is another. */
+uint64_t hudzmoke_check(const uint8_t *program, size_t program_length,
+                        const uint8_t *claim, size_t claim_length,
+                        uint8_t *memory, size_t memory_length,
+                        uint64_t *answer, size_t answer_length);
+
+/* Runs a program for at most n steps (more than 1,000,000 count as that); the number of what became of it. The answer's words: that number;
+ * the steps made, or the line; the pending object and 1, or 0; open frames; objects. Words without a value are 0. The slices hold the state
+ * after these steps, the bottom frame first, objects in order of making; up to the least lengths what is not used is zero, and what lies
+ * beyond is untouched. Refused or with too little memory, they are untouched. */
+uint64_t hudzmoke_step(const uint8_t *text, size_t text_length, uint64_t n,
+                       hudzmoke_frame *frames, size_t frames_length,
+                       hudzmoke_object *objects, size_t objects_length,
+                       hudzmoke_value *statics, size_t statics_length,
+                       uint64_t *answer, size_t answer_length);
+
+#ifdef __cplusplus
+}
+#endif
+
+#endif
