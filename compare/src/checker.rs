@@ -46,6 +46,20 @@ struct Site {
     callees: Methods,
 }
 
+impl Verdict {
+    /// Number (34 accepted, 35 violated), then the count of calls, or rule,
+    /// method and address, or the line; 0 where there is no such value.
+    pub fn words(&self) -> [u64; 5] {
+        match *self {
+            Verdict::Accepted(count) => [34, count as u64, 0, 0, 0],
+            Verdict::Violated(Violation { rule, method, address }) => {
+                [35, rule.into(), method.into(), address.into(), 0]
+            }
+            Verdict::Refused(Refusal { number, line }) => [number.into(), line.into(), 0, 0, 0],
+        }
+    }
+}
+
 impl From<Refusal> for Verdict {
     fn from(refusal: Refusal) -> Verdict {
         Verdict::Refused(refusal)

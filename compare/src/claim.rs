@@ -3,7 +3,7 @@
 //! [`read`] makes it from a text, or gives the refusal (9 to 13); [`write`]
 //! gives its frames and its text.
 
-mod digits;
+pub(crate) mod digits;
 pub mod read;
 pub mod write;
 

@@ -1,6 +1,7 @@
 //! What the cases for the stepper reach, counted in cases.
 
 use crate::generate_steps::Case;
+use crate::machine::moment::Moment;
 use crate::machine::run::Machine;
 use crate::machine::state::{Limits, Stop};
 use crate::machine::{self, MAX_STEPS};
@@ -50,20 +51,18 @@ impl Coverage {
         let mut machine = Machine::new(program, Limits::STEPPER);
         let mut kinds = BTreeSet::new();
         let stop = loop {
-            let instruction = current(program, &machine);
-            let (made, address) = (machine.steps, top_address(&machine));
-            let pending = machine.pending.is_some();
-            let stop = machine.run(n.min(made + 1));
-            if machine.steps > made {
-                if let (Some(i), false) = (instruction, pending) {
-                    let next = top_address(&machine) == address.map(|at| at + 1);
+            let before = Moment::of(&machine);
+            let stop = machine.run(n.min(machine.steps + 1));
+            if let Some(before) = before {
+                if before.executed(&machine) {
+                    let i = instruction(program, &before);
+                    let next = top_address(&machine) == Some(before.address + 1);
                     let way = machine.end.is_none().then_some(if next { "left" } else { "taken" });
                     kinds.insert((i.o, i.c, i.d as u8, way));
                 }
-                if pending {
-                    let caught = machine.pending.is_none();
-                    reached.insert(if caught { "caught" } else { "dropped frame" }.to_string());
-                }
+                let caught = before.caught(&machine).then_some("caught");
+                let dropped = before.left(&machine).map(|_| "dropped frame");
+                reached.extend(caught.or(dropped).map(String::from));
             }
             if stop != Stop::StepsMade || machine.steps >= n {
                 break stop;
@@ -94,8 +93,7 @@ fn top_address(machine: &Machine) -> Option<u8> {
     machine.frames.last().map(|frame| frame.address)
 }
 
-fn current(program: &Program, machine: &Machine) -> Option<Instruction> {
-    let frame = machine.frames.last()?;
-    let code = &program.methods[usize::from(frame.method)].code;
-    code.get(usize::from(frame.address)).copied()
+/// The instruction of the top frame, whose address lies in its method.
+pub fn instruction(program: &Program, moment: &Moment) -> Instruction {
+    program.methods[usize::from(moment.method)].code[usize::from(moment.address)]
 }

@@ -1,6 +1,6 @@
 //! Answers as one printed line each, in lowercase hexadecimal.
 
-use crate::machine::{Answer, Report};
+use crate::machine::Answer;
 use crate::program::Program;
 use crate::Refusal;
 
@@ -32,12 +32,7 @@ pub fn describe(answer: &Result<Program, Refusal>) -> String {
 /// The stepper's answer and a checksum of its memory: number, steps (or
 /// line), pending object plus one or 0, open frames, objects.
 pub fn describe_steps(answer: &Answer, memory: [&[u64]; 3]) -> String {
-    let (number, steps, pending, frames, objects) = match *answer {
-        Answer::Refused(Refusal { number, line }) => (number, u64::from(line), 0, 0, 0),
-        Answer::Started(Report { number, steps, pending, frames, objects }) => {
-            (number, steps, pending.map_or(0, |object| object + 1), frames, objects)
-        }
-    };
+    let [number, steps, pending, frames, objects] = answer.words();
     let sum = sum(memory.into_iter().flatten().copied());
     format!("{number:02x} {steps:08x} {pending:03x} {frames:02x} {objects:03x} {sum:08x}")
 }
@@ -60,6 +55,7 @@ fn sum(words: impl Iterator<Item = u64>) -> u32 {
 #[cfg(test)]
 mod tests {
     use super::*;
+    use crate::machine::Report;
 
     /// Two classes and `return-void`, summed by hand in another way: the
     /// value of a polynomial at 257, without reduction until the end.

@@ -71,12 +71,20 @@ impl Program {
 
 /// The text of these frames: lowercase hexadecimal, one frame a line.
 pub fn text(frames: &[Vec<u8>]) -> Vec<u8> {
-    frames.iter().flat_map(|frame| line(frame)).collect()
+    frames.iter().map(|frame| line(frame)).collect::<Vec<_>>().concat()
 }
 
 /// One frame's line, its line end included.
 pub fn line(frame: &[u8]) -> Vec<u8> {
-    let mut digits: String = frame.iter().map(|byte| format!("{byte:02x}")).collect();
-    digits.push('\n');
-    digits.into_bytes()
+    let mut line = Vec::with_capacity(2 * frame.len() + 1);
+    frame.iter().for_each(|&byte| line.extend_from_slice(&digits(byte)));
+    line.push(b'\n');
+    line
+}
+
+/// The two digits of a byte.
+#[inline]
+pub fn digits(byte: u8) -> [u8; 2] {
+    const DIGITS: &[u8; 16] = b"0123456789abcdef";
+    [DIGITS[usize::from(byte >> 4)], DIGITS[usize::from(byte & 15)]]
 }

@@ -9,13 +9,15 @@
 //! * [`claim`]: the claim, and its text;
 //! * [`checker`]: whether a claim keeps the rules, and [`report`], what the
 //!   tool prints of that;
-//! * [`least`]: the least claim that keeps them;
+//! * [`least`]: the least claim that keeps them, and [`inside`], whether a run
+//!   stays inside a claim;
 //! * [`digest`]: an answer as one printed line;
 //! * [`generate`]: the texts that both readers answer, with [`random`] numbers
 //!   where they are to be many;
 //! * [`generate_steps`]: the runs that both steppers make, and [`coverage`],
 //!   what they reach;
-//! * [`generate_claims`]: the claims that both checkers judge.
+//! * [`generate_claims`]: the claims that both checkers judge;
+//! * [`fuzz`]: random and damaged inputs for both, and what is compared.
 
 #![forbid(unsafe_code)]
 
@@ -25,9 +27,11 @@ pub mod claim;
 pub mod coverage;
 pub mod digest;
 pub mod frame;
+pub mod fuzz;
 pub mod generate;
 pub mod generate_claims;
 pub mod generate_steps;
+pub mod inside;
 pub mod least;
 pub mod machine;
 pub mod opcode;

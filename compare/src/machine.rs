@@ -2,14 +2,17 @@
 //!
 //! A read program is decoded ([`code`]) and run in structures of its own
 //! ([`run`], with [`state`] and [`execute`]); the state reached is then laid
-//! into the lent memory ([`layout`]).
+//! into the lent memory, in words ([`layout`]) or in structs of C
+//! ([`structs`]). [`moment`] tells what a step did.
 
 pub mod arithmetic;
 pub mod code;
 pub mod execute;
 pub mod layout;
+pub mod moment;
 pub mod run;
 pub mod state;
+pub mod structs;
 pub mod value;
 
 use crate::reader;
@@ -17,6 +20,7 @@ use crate::Refusal;
 use layout::Memory;
 use run::Machine;
 use state::{End, Limits, Stop};
+use structs::Structs;
 
 /// The most steps that one call makes.
 pub const MAX_STEPS: u64 = 1_000_000;
@@ -39,6 +43,20 @@ pub struct Report {
     pub objects: usize,
 }
 
+impl Answer {
+    /// Number, steps or line, pending object plus one or 0, open frames,
+    /// objects.
+    pub fn words(&self) -> [u64; 5] {
+        match *self {
+            Answer::Refused(Refusal { number, line }) => [number.into(), line.into(), 0, 0, 0],
+            Answer::Started(Report { number, steps, pending, frames, objects }) => {
+                let pending = pending.map_or(0, |object| u64::from(object) + 1);
+                [number.into(), steps, pending, frames as u64, objects as u64]
+            }
+        }
+    }
+}
+
 /// Makes `n` steps of a text's run, or fewer if it ends or cannot go on.
 pub fn step(
     text: &[u8],
@@ -47,17 +65,30 @@ pub fn step(
     objects: &mut [u64],
     statics: &mut [u64],
 ) -> Answer {
+    let mut memory = Memory { frames, objects, statics };
+    let enough = memory.is_enough();
+    steps(text, n, enough, |machine| memory.lay(machine))
+}
+
+/// The same in memory of structs.
+pub fn step_in_structs(text: &[u8], n: u64, mut memory: Structs) -> Answer {
+    let enough = memory.is_enough();
+    steps(text, n, enough, |machine| memory.lay(machine))
+}
+
+/// Makes the steps if the text is a program and memory is enough, and has the
+/// state laid.
+fn steps(text: &[u8], n: u64, enough: bool, lay: impl FnOnce(&Machine)) -> Answer {
     let program = match reader::read(text) {
         Ok(program) => program,
         Err(refusal) => return Answer::Refused(refusal),
     };
-    let mut memory = Memory { frames, objects, statics };
-    if !memory.is_enough() {
+    if !enough {
         return Answer::Refused(Refusal::new(23, 0));
     }
     let mut machine = Machine::new(&program, Limits::STEPPER);
     let stop = machine.run(n.min(MAX_STEPS));
-    memory.lay(&machine);
+    lay(&machine);
     Answer::Started(Report {
         number: number(stop),
         steps: machine.steps,

@@ -1,5 +1,7 @@
 //! Lowercase hexadecimal digits, eight at a time in one word.
 
+use crate::frame;
+
 /// The same byte eight times.
 const fn each(byte: u8) -> u64 {
     u64::from_ne_bytes([byte; 8])
@@ -39,8 +41,7 @@ fn packed(values: u64) -> u64 {
 /// Whether these two digits are those of this byte.
 #[inline]
 pub fn are(digits: &[u8], byte: u8) -> bool {
-    const DIGITS: &[u8; 16] = b"0123456789abcdef";
-    digits == [DIGITS[usize::from(byte >> 4)], DIGITS[usize::from(byte & 15)]]
+    digits == frame::digits(byte)
 }
 
 #[cfg(test)]

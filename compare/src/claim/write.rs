@@ -21,7 +21,7 @@ impl ClaimFrame {
 
     pub fn bytes(&self) -> Vec<u8> {
         let mut bytes = self.head.clone();
-        bytes.extend(self.masks.iter().flat_map(|mask| mask.to_be_bytes()));
+        self.masks.iter().for_each(|mask| bytes.extend_from_slice(&mask.to_be_bytes()));
         bytes
     }
 
@@ -67,5 +67,5 @@ impl Claim {
 
 /// The text of these frames, in this order.
 pub fn text(frames: &[ClaimFrame]) -> Vec<u8> {
-    frames.iter().flat_map(|frame| frame::line(&frame.bytes())).collect()
+    frames.iter().map(|frame| frame::line(&frame.bytes())).collect::<Vec<_>>().concat()
 }

@@ -48,6 +48,12 @@ fn digit(random: &mut Random) -> u8 {
 
 /// One or two lines left out, repeated, swapped or moved, or the end cut.
 pub fn change_lines(random: &mut Random, mut frames: Vec<Vec<u8>>) -> Vec<u8> {
+    change_order(random, &mut frames);
+    text(&frames)
+}
+
+/// The same of lines of any form.
+pub fn change_order<T: Clone>(random: &mut Random, frames: &mut Vec<T>) {
     for _ in 0..random.within(1..=2) {
         if frames.is_empty() {
             break;
@@ -69,7 +75,6 @@ pub fn change_lines(random: &mut Random, mut frames: Vec<Vec<u8>>) -> Vec<u8> {
             _ => frames.truncate(from.max(frames.len() / 2)),
         }
     }
-    text(&frames)
 }
 
 /// One to three bytes after the kind made another, most often a small one.

@@ -3,7 +3,7 @@
 use super::measure::interleaved;
 use super::{line, programs, proved, ROUNDS};
 use compare::assembly::SAMPLE;
-use compare::checker::{check, Verdict, Violation, LEAST_MEMORY};
+use compare::checker::{check, LEAST_MEMORY};
 use compare::claim::{class_bits, Claim};
 use compare::generate_claims::{calling_program, storing_program};
 use compare::least::{addresses, close, greatest, least};
@@ -85,16 +85,10 @@ pub fn all() -> Vec<Check> {
 }
 
 /// Gives the answer, and may write to the memory.
-type Checker = fn(&[u8], &[u8], &mut [u8]) -> [u64; 4];
+type Checker = fn(&[u8], &[u8], &mut [u8]) -> [u64; 5];
 
-fn rust_check(program: &[u8], claim: &[u8], memory: &mut [u8]) -> [u64; 4] {
-    match check(program, claim, memory) {
-        Verdict::Accepted(count) => [ACCEPTED, count as u64, 0, 0],
-        Verdict::Violated(Violation { rule, method, address }) => {
-            [VIOLATED, rule.into(), method.into(), address.into()]
-        }
-        Verdict::Refused(refusal) => [refusal.number.into(), refusal.line.into(), 0, 0],
-    }
+fn rust_check(program: &[u8], claim: &[u8], memory: &mut [u8]) -> [u64; 5] {
+    check(program, claim, memory).words()
 }
 
 fn fresh() -> Vec<u8> {

@@ -3,13 +3,15 @@
 //! agree.
 
 mod checks;
+#[path = "../library/mod.rs"]
+mod library;
 mod measure;
 mod programs;
 mod proved;
 
 use compare::generate::largest_program;
 use compare::machine::layout::{FRAMES, OBJECTS, STATICS};
-use compare::machine::{step, Answer, MAX_STEPS};
+use compare::machine::{step, MAX_STEPS};
 use compare::reader::{read, MAX_LENGTH};
 use measure::{interleaved, Times};
 use std::hint::black_box;
@@ -50,14 +52,7 @@ fn fresh() -> [Vec<u64>; 3] {
 }
 
 fn rust_steps(text: &[u8], [mut frames, mut objects, mut statics]: [Vec<u64>; 3]) -> Left {
-    let answer = match step(text, MAX_STEPS, &mut frames, &mut objects, &mut statics) {
-        Answer::Refused(refusal) => [refusal.number.into(), refusal.line.into(), 0, 0, 0],
-        Answer::Started(report) => {
-            let pending = report.pending.map_or(0, |object| u64::from(object) + 1);
-            let counts = [report.frames as u64, report.objects as u64];
-            [report.number.into(), report.steps, pending, counts[0], counts[1]]
-        }
-    };
+    let answer = step(text, MAX_STEPS, &mut frames, &mut objects, &mut statics).words();
     Left { answer, memory: [frames, objects, statics] }
 }
 

@@ -1,0 +1,189 @@
+//! The fuzzer notices: whatever is changed in what the calls left is given as
+//! a difference.
+
+use compare::assembly::*;
+use compare::checker::{Verdict, LEAST_MEMORY};
+use compare::fuzz::differ::{difference, follow};
+use compare::fuzz::left::{Expected, Left};
+use compare::fuzz::lengths::Lengths;
+use compare::fuzz::Case;
+use compare::least::least;
+use compare::program::{Handler, Program};
+
+/// Calls method 1, which throws; catches that, calls method 2, and ends. All
+/// is over after 11 steps.
+fn program_of_all() -> Program {
+    let main = vec![
+        invoke_static(1, 0, 0),
+        move_exception(0),
+        sput(0, 0),
+        invoke_static(2, 1, 0),
+        return_void(),
+    ];
+    let methods = vec![
+        main_method(2, main).with_handlers(vec![Handler::new(0, 1, 1, 1)]),
+        static_method(1, 2, 0, vec![new_instance(0, 1), throw(0)]),
+        static_method(2, 2, 1, vec![constant(0, 7), return_void()]),
+    ];
+    program(&[0], &[0], 1, methods)
+}
+
+fn case(n: u64) -> Case {
+    let program = program_of_all();
+    let lent = Lengths {
+        frames: 34,
+        objects: 257,
+        statics: 17,
+        memory: LEAST_MEMORY + 3,
+        step_answer: 6,
+        check_answer: 5,
+    };
+    let claim = least(&program).text(&program);
+    let (salt, made) = (0x1234_5678_9abc_def1, ["as made", "least"]);
+    Case { program: program.text(), claim, n, lent, salt, follow: 100, made }
+}
+
+fn expected(case: &Case) -> Expected {
+    Expected::of(case, Left::before(case))
+}
+
+/// What is said if the calls leave this in place of what they should.
+fn noticed(n: u64, change: impl Fn(&mut Left)) -> String {
+    let expected = expected(&case(n));
+    let mut got = expected.left.clone();
+    change(&mut got);
+    difference(&expected.left, &got).map(|difference| difference.what).unwrap_or_default()
+}
+
+#[test]
+fn what_is_the_same_does_not_differ() {
+    for n in [0, 1, 3, 4, 7, 100] {
+        assert_eq!(noticed(n, |_| {}), "");
+        assert_eq!(follow(&case(n), &expected(&case(n)), &expected(&case(n)).left), Ok(Some(11)));
+    }
+    let expected = expected(&case(100));
+    assert_eq!(expected.answer.words(), [32, 11, 0, 0, 1]);
+    assert_eq!(expected.verdict, Verdict::Accepted(2));
+}
+
+#[test]
+fn numbers_and_answer_words() {
+    assert_eq!(noticed(3, |left| left.numbers[0] = 5), "number given by the reader");
+    assert_eq!(noticed(3, |left| left.numbers[1] = 32), "number given by the stepper");
+    assert_eq!(noticed(3, |left| left.numbers[2] = 35), "number given by the checker");
+    for word in 0..6 {
+        let what = noticed(3, |left| left.step_answer.lent_mut()[word] ^= 1);
+        assert_eq!(what, format!("answer of the stepper: element {word}, byte 0 of 8"));
+    }
+    let what = noticed(3, |left| left.check_answer.lent_mut()[1] ^= 1 << 63);
+    assert_eq!(what, "answer of the checker: element 1, byte 7 of 8");
+}
+
+#[test]
+fn an_answer_written_where_too_few_words_are_lent() {
+    let mut case = case(3);
+    case.lent.step_answer = 4;
+    let expected = expected(&case);
+    let mut got = expected.left.clone();
+    got.step_answer.lent_mut()[0] = 22;
+    assert!(difference(&expected.left, &got).is_some());
+    assert_eq!(expected.left.step_answer.all, Left::before(&case).step_answer.all);
+}
+
+#[test]
+fn a_byte_past_the_used_part() {
+    let what = noticed(3, |left| left.frames.lent_mut()[32].result.object ^= 0x100);
+    assert_eq!(what, "frames: element 32, byte 137 of 144");
+    let what = noticed(3, |left| left.objects.lent_mut()[255].cells[15].number = 1 << 24);
+    assert_eq!(what, "objects: element 255, byte 131 of 132");
+    let what = noticed(3, |left| left.statics.lent_mut()[16].object = 0);
+    assert_eq!(what, "statics: element 16, byte 0 of 8");
+    let what = noticed(3, |left| left.memory.lent_mut()[6] = 0);
+    assert_eq!(what, "memory of the checker: element 6, byte 0 of 1");
+}
+
+/// After 4 steps frame 1 has been dropped; it had an object in register 0.
+#[test]
+fn a_register_of_a_popped_frame() {
+    let before = expected(&case(2)).left.frames.lent()[1];
+    assert_eq!(before.registers[0].object, 1);
+    let what = noticed(4, |left| left.frames.lent_mut()[1].registers[0] = before.registers[0]);
+    assert_eq!(what, "frames: element 1, byte 8 of 144");
+    let what = noticed(100, |left| left.frames.lent_mut()[0].address = 4);
+    assert_eq!(what, "frames: element 0, byte 4 of 144");
+}
+
+#[test]
+fn guards() {
+    let what = noticed(3, |left| left.frames.all[3].method = 0);
+    assert_eq!(what, "frames: guard 1 before the first element, byte 0 of 144");
+    let what = noticed(3, |left| left.objects.all.last_mut().unwrap().class = 0);
+    assert_eq!(what, "objects: guard 4 after the last element, byte 0 of 132");
+    let what = noticed(3, |left| left.statics.all[0].number = 0);
+    assert_eq!(what, "statics: guard 4 before the first element, byte 4 of 8");
+    let what = noticed(3, |left| *left.memory.all.last_mut().unwrap() = 0);
+    assert_eq!(what, "memory of the checker: guard 64 after the last element, byte 0 of 1");
+    let what = noticed(3, |left| left.check_answer.all[3] = 0);
+    assert_eq!(what, "answer of the checker: guard 1 before the first element, byte 0 of 8");
+}
+
+#[test]
+fn texts_that_were_written() {
+    let what = noticed(3, |left| left.program.lent_mut()[2] = b'x');
+    assert_eq!(what, "program text: element 2, byte 0 of 1");
+    let what = noticed(3, |left| left.claim.all[0] = b'x');
+    assert!(what.starts_with("claim text: guard "), "{what}");
+}
+
+#[test]
+fn a_call_missing_from_the_list() {
+    let list = [[0, 0, 1], [0, 3, 2]].concat();
+    let expected = expected(&case(100));
+    assert_eq!(expected.left.memory.lent()[..6], list);
+    let mut got = expected.left.clone();
+    got.memory.lent_mut()[5] = 1;
+    let what = difference(&expected.left, &got).unwrap().what;
+    assert_eq!(what, "memory of the checker: element 5, byte 0 of 1");
+    let outside = follow(&case(100), &expected, &got).unwrap_err();
+    assert_eq!(outside.got, "step 8: the call [00, 03, 02] is not in the list");
+}
+
+/// What is said of the run if a mask of this line of the claim had no bit and
+/// the claim were accepted all the same.
+fn without_bits(line: usize, mask: usize) -> String {
+    let expected = expected(&case(100));
+    let mut case = case(100);
+    let ends = case.claim.iter().enumerate().filter(|(_, &byte)| byte == b'\n');
+    let end = ends.map(|(place, _)| place).nth(line).unwrap();
+    case.claim[end - 16 * (mask + 1)..end - 16 * mask].fill(b'0');
+    let got = &expected.left;
+    follow(&case, &expected, got).map_or_else(|outside| outside.got, |_| "inside".to_string())
+}
+
+#[test]
+fn a_run_outside_a_mask() {
+    // Registers and result at method 0 address 0, where it waits for a call.
+    let what = "lies outside its mask";
+    assert_eq!(
+        without_bits(0, 2),
+        format!("register (place 0) of frame 0, method 0 address 0, {what}")
+    );
+    assert_eq!(
+        without_bits(1, 0),
+        format!("step 5: result (place 2) of frame 0, method 0 address 1, {what}")
+    );
+    assert_eq!(
+        without_bits(6, 2),
+        format!("step 2: register (place 0) of frame 1, method 1 address 1, {what}")
+    );
+    // Field 0 of class 0, which has no object, and of class 1; static 0.
+    assert_eq!(without_bits(9, 0), "inside");
+    assert_eq!(without_bits(10, 0), format!("step 2: field 0 of object 0 {what}"));
+    assert_eq!(without_bits(11, 0), format!("static 0 {what}"));
+    // What leaves method 0, and method 1.
+    assert_eq!(without_bits(15, 0), "inside");
+    assert_eq!(
+        without_bits(16, 0),
+        "step 4: an exception of class 1 left method 1 and is not in its mask"
+    );
+}
