@@ -9,6 +9,7 @@ use turn::Status;
 use turn::Tally;
 ghost use mathlib.Core.Path.{_≡_};
 ghost use Prim.Native.Nat.{min, _-_};
+ghost use lib.ListN.{replicate};
 ghost use Rattle.reader.specs.Read.{readProgram, tablesAfter};
 ghost use Rattle.bounded.specs.Lent.{enough};
 ghost use Rattle.begun.specs.Begun.{startRun, refusal, started, begunBy, limitHalt, haltOf, pendingOf, ranTo, endedBy};
@@ -88,7 +89,7 @@ fn started(n: u64) -> Beginning
 }
 
 // Reads a text, and says how its run begins where so many frames, objects and statics are lent. Read: the tables hold the
-// program. Refused: they are as they were.
+// program. Refused: they are zero.
 pub fn begin(
     text: &[u8],
     n: u64,
@@ -98,9 +99,9 @@ pub fn begin(
     statics: usize,
 ) -> Beginning
     ensures begun { λ r. ⌜ r ≡ begunBy (readProgram (now (text .entry))) n frames objects statics ⌝ }
-    ensures tables { λ r. ⌜ now (t .exit) ≡ tablesAfter (readProgram (now (text .entry))) (now (t .entry)) ⌝ }
+    ensures tables { λ r. ⌜ now (t .exit) ≡ tablesAfter (readProgram (now (text .entry))) (replicate 768 0) ⌝ }
 {
-    let read = reader::read(text, &mut *t);
+    let read = reader::fill(text, &mut *t);
     let number = reader::number_of(read);
     if number != 0 {
         return refusal(number, reader::line_of(read));

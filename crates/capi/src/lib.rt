@@ -22,7 +22,7 @@ pub extern "C" fn hudzmoke_read(text: &[u8]) -> u64
     ensures number { λ r. ⌜ r ≡ readingNumber (readProgram (now (text .entry))) ⌝ }
 {
     let mut t = [0u64; 768];
-    let answer = reader::read(text, &mut t);
+    let answer = reader::fill(text, &mut t);
     reader::number_of(answer) as u64
 }
 

@@ -5,9 +5,10 @@ use Prim.Native.Nat.{ℕ, _≤_}
 use native.Mathlib.Omega.{arith}
 use lib.Dec.{eqb}
 use borrow.Author.Tests.{ne-eqb}
+use Rattle.instruction.proofs.Flags.{or-right}
 use Rattle.mask.specs.declared.Mask.{Mask}
 use Rattle.mask.specs.Mask.{has, every, subset}
-use Rattle.mask.proofs.Laws.{every-same}
+use Rattle.mask.proofs.Laws.{every-all, every-same}
 
 -- a guard that passes asks, one that fails does not
 pub asked : (t f : Bool) → t ≡ true → not t || f ≡ f
@@ -17,6 +18,11 @@ asked false f e = cc
 pub unasked : (t f : Bool) → t ≡ false → not t || f ≡ true
 unasked true f e = cc
 unasked false f e = refl
+
+-- a test that every number passes, asked of some
+pub all-asked : (n : ℕ) (asks test : ℕ → Bool) → ((r : ℕ) → test r ≡ true) → true ≡ every n (λ r. not (asks r) || test r)
+all-asked n asks test h =
+    sym (every-all n (λ r. not (asks r) || test r) (λ r l. or-right (not (asks r)) (test r) (h r)))
 
 -- to leave out a number that is not below the bound is to leave out none
 pub none-left-out : (b : Bool) (n a : ℕ) (test : ℕ → Bool) → n ≤ a → b ≡ every n (λ r. not (not (eqb r a)) || test r) → b ≡ every n test

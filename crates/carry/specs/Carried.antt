@@ -1,13 +1,22 @@
 -- Parts of rules 0 to 3 that inner functions answer. Definitions only, and none that a reader of the public promises has to believe.
-use mathlib.Core.Bool.{not}
+use mathlib.Core.Bool.{Bool, not}
+use mathlib.Core.List.{List}
 use Prim.Native.Nat.{ℕ, _+_, _-_}
 use lib.Dec.{eqb}
-use Rattle.mask.specs.Mask.{zeroBit}
+use Rattle.mask.specs.Mask.{every, subset, zeroBit}
 use Rattle.program.specs.Program.{Program, classCount, fieldCount, registers}
 use Rattle.search.specs.Search.{hasField}
 use Rattle.flow.specs.Claim.{registerAt, fieldOf, staticOf}
 use Rattle.flow.specs.Flows.{Flows, _∈_, _⊆_, each, when}
 use Rattle.flow.specs.Rules.{argumentInto}
+use Rattle.slots.specs.Layout.{maskAt}
+
+-- the mask in word i from one place on is in that from another; those in 16 words
+abbrev pub wordIn : List ℕ → ℕ → ℕ → ℕ → Bool
+wordIn ws from to i = subset (maskAt ws (from + i)) (maskAt ws (to + i))
+
+abbrev pub rowIn : List ℕ → ℕ → ℕ → Bool
+rowIn ws from to = every 16 (wordIn ws from to)
 
 -- all registers but a flow from address pc to another
 abbrev pub carriedExcept : Program → ℕ → ℕ → ℕ → ℕ → Flows

@@ -1,14 +1,45 @@
 // Rules 0 to 3 in code: fields, statics and entries that hold zero, and registers and results that flow on. Every function takes any
 // tables and words: what it answers is said of the program and the claim that stand in them.
+use mask::Mask;
 ghost use mathlib.Core.Path.{_≡_};
-ghost use Prim.Native.Nat.{ℕ, _-_};
+ghost use mathlib.Core.Bool.{true};
+ghost use Prim.Native.Nat.{ℕ, _+_, _-_, _≤_};
 ghost use Rattle.program.specs.Program.{registers, arguments};
 ghost use Rattle.program.specs.Tables.{programIn};
-ghost use Rattle.flow.specs.Claim.{resultAt};
+ghost use Rattle.flow.specs.Claim.{registerAt, resultAt};
 ghost use Rattle.flow.specs.Flows.{_⊆_, kept};
 ghost use Rattle.flow.specs.Rules.{initialMemory, entry, carried, onward, onwardExcept};
 ghost use Rattle.slots.specs.Layout.{claimIn};
-ghost use Rattle.carry.specs.Carried.{carriedExcept, argumentsFrom, classFields, allFields, allStatics};
+ghost use Rattle.carry.specs.Carried.{rowIn, carriedExcept, argumentsFrom, classFields, allFields, allStatics};
+
+// Whether the masks in 16 words from one place on are in those from another: no bit is in one word and not in the other.
+fn row_in(w: &[u64; 9712], from: usize, to: usize) -> bool
+    requires { ⌜ (from + 16 ≤ 9712) × (to + 16 ≤ 9712) ⌝ }
+    ensures value { λ r. ⌜ r ≡ rowIn (now (w .entry)) from to ⌝ }
+{
+    let mut out = Mask { bits: 0 };
+    let mut r: usize = 0;
+    while r < 16 {
+        let x = Mask { bits: w[from + r] };
+        let y = Mask { bits: w[to + r] };
+        let more = x.without(y);
+        out = out.join(more);
+        r += 1;
+    }
+    out.subset(Mask { bits: 0 })
+}
+
+// A quick test, of a whole row at once: where it passes, all registers at an address flow to another. Where it fails, those that are
+// asked may still do.
+fn row_flows(w: &[u64; 9712], m: usize, pc: usize, to: usize) -> bool
+    ensures flow { λ r. ⌜ (r ≡ true → (k : ℕ) → kept (claimIn (now (w .entry))) (registerAt m pc k ⊆ registerAt m to k) ≡ true) ⌝ }
+{
+    if m < 16 && pc < 32 && to < 32 {
+        row_in(w, slots::row(m, pc), slots::row(m, to))
+    } else {
+        false
+    }
+}
 
 // Whether all registers at one address of a method, but register a, flow to another address.
 fn carried_except(t: &[u64; 768], w: &[u64; 9712], m: usize, pc: usize, a: usize, to: usize) -> bool
@@ -29,11 +60,26 @@ fn carried_except(t: &[u64; 768], w: &[u64; 9712], m: usize, pc: usize, a: usize
     true
 }
 
+// The same, answered at once where the quick test passes.
+fn others_carried(t: &[u64; 768], w: &[u64; 9712], m: usize, pc: usize, a: usize, to: usize) -> bool
+    ensures value { λ r. ⌜ r ≡ kept (claimIn (now (w .entry))) (carriedExcept (programIn (now (t .entry))) m pc a to) ⌝ }
+{
+    if row_flows(w, m, pc, to) {
+        true
+    } else {
+        carried_except(t, w, m, pc, a, to)
+    }
+}
+
 // Whether all registers flow to an address. No method has a register 256.
 pub fn carried(t: &[u64; 768], w: &[u64; 9712], m: usize, pc: usize, to: usize) -> bool
     ensures value { λ r. ⌜ r ≡ kept (claimIn (now (w .entry))) (carried (programIn (now (t .entry))) m pc to) ⌝ }
 {
-    carried_except(t, w, m, pc, 256, to)
+    if row_flows(w, m, pc, to) {
+        true
+    } else {
+        carried_except(t, w, m, pc, 256, to)
+    }
 }
 
 fn result_flows(w: &[u64; 9712], m: usize, pc: usize, to: usize) -> bool
@@ -66,7 +112,7 @@ pub fn onward_except(
 ) -> bool
     ensures value { λ r. ⌜ r ≡ kept (claimIn (now (w .entry))) (onwardExcept (programIn (now (t .entry))) m pc a to) ⌝ }
 {
-    if carried_except(t, w, m, pc, a, to) {
+    if others_carried(t, w, m, pc, a, to) {
         result_flows(w, m, pc, to)
     } else {
         false

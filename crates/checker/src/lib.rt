@@ -40,7 +40,7 @@ fn check_claim(t: &[u64; 768], claim: &[u8], w: &mut [u64; 9712], memory: &mut [
     ensures memory { λ r. ⌜ now (memory .exit) ≡ memoryAfter (withClaim (programIn (now (t .entry))) (length (now (memory .entry))) (readClaim (programIn (now (t .entry))) (now (claim .entry)))) (now (memory .entry)) ⌝ }
     ensures accepting { λ r. ⌜ ((k : ℕ) → r ≡ Accepted k → Accepting (programIn (now (t .entry))) (now (claim .entry)) (callsIn k (now (memory .exit)))) ⌝ }
 {
-    let read = claim::read(t, claim, &mut *w);
+    let read = claim::fill(t, claim, &mut *w);
     let number = claim::number_of(read);
     if number != 0 {
         return Verdict::Refused {
@@ -67,7 +67,7 @@ fn check_by(program: &[u8], claim: &[u8], t: &mut [u64; 768], memory: &mut [u8])
     ensures memory { λ r. ⌜ now (memory .exit) ≡ memoryAfter (checking (now (program .entry)) (now (claim .entry)) (length (now (memory .entry)))) (now (memory .entry)) ⌝ }
     ensures coverage { λ r. ⌜ ((k : ℕ) → r ≡ Accepted k → Coverage (now (program .entry)) (now (claim .entry)) (callsIn k (now (memory .exit)))) ⌝ }
 {
-    let read = reader::read(program, &mut *t);
+    let read = reader::fill(program, &mut *t);
     let number = reader::number_of(read);
     if number != 0 {
         return Verdict::Refused {

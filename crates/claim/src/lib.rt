@@ -5,9 +5,11 @@ mod walk; // walk.rt: line after line
 
 use lines::Cursor;
 ghost use mathlib.Core.Path.{_≡_};
+ghost use mathlib.Core.List.{List};
+ghost use Prim.Native.Nat.{ℕ};
 ghost use Rattle.program.specs.Tables.{programIn};
 ghost use Rattle.slots.specs.Layout.{noMasks};
-ghost use Rattle.claim.specs.ReadClaim.{readClaim, readingNumber, readingValues, masksAfter, numberOf, valuesOf, lineOf};
+ghost use Rattle.claim.specs.ReadClaim.{taken, readClaim, readingNumber, readingValues, masksAfter, numberOf, valuesOf, lineOf};
 ghost use Rattle.claim.specs.Inside.{answerOf};
 
 // What a text turned out to be. A refusal has its line; that of the length has line 0.
@@ -85,16 +87,16 @@ fn refusal(number: usize, line: usize) -> Answer
     }
 }
 
-// Reads a claim text by way of a draft, the words of no mask, which is copied when nothing is left to refuse.
-fn read_by(t: &[u64; 768], text: &[u8], draft: &mut [u64; 9712], w: &mut [u64; 9712]) -> Answer
-    requires { ⌜ now draft ≡ noMasks ⌝ }
+// Takes a claim text into words of no mask. Read: the words hold the claim.
+fn take(t: &[u64; 768], text: &[u8], w: &mut [u64; 9712]) -> Answer
+    requires { ⌜ now w ≡ noMasks ⌝ }
     ensures answer { λ r. ⌜ (numberOf r ≡ readingNumber (readClaim (programIn (now (t .entry))) (now (text .entry)))) × (valuesOf r ≡ readingValues (readClaim (programIn (now (t .entry))) (now (text .entry)))) ⌝ }
-    ensures memory { λ r. ⌜ now (w .exit) ≡ masksAfter (readClaim (programIn (now (t .entry))) (now (text .entry))) (now (w .entry)) ⌝ }
+    ensures masks { λ r. ⌜ ((ms : List ℕ) → readClaim (programIn (now (t .entry))) (now (text .entry)) ≡ taken ms → now (w .exit) ≡ ms) ⌝ }
 {
     if 262144 < text.len() {
         return Answer::TooLong;
     }
-    let end = walk::take_parts(t, text, &mut *draft);
+    let end = walk::take_parts(t, text, &mut *w);
     let place = end.place;
     if end.number != 0 {
         return refusal(end.number, place.line);
@@ -103,7 +105,6 @@ fn read_by(t: &[u64; 768], text: &[u8], draft: &mut [u64; 9712], w: &mut [u64; 9
     if more != 0 {
         return refusal(more, place.line);
     }
-    *w = *draft;
     Answer::Read
 }
 
@@ -113,5 +114,24 @@ pub fn read(t: &[u64; 768], text: &[u8], w: &mut [u64; 9712]) -> Answer
     ensures memory { λ r. ⌜ now (w .exit) ≡ masksAfter (readClaim (programIn (now (t .entry))) (now (text .entry))) (now (w .entry)) ⌝ }
 {
     let mut draft = [0u64; 9712];
-    read_by(t, text, &mut draft, w)
+    let answer = take(t, text, &mut draft);
+    if number_of(answer) != 0 {
+        return answer;
+    }
+    *w = draft;
+    answer
+}
+
+// The same without a draft, for words of the caller's own. Refused: they hold no mask.
+pub fn fill(t: &[u64; 768], text: &[u8], w: &mut [u64; 9712]) -> Answer
+    ensures answer { λ r. ⌜ (numberOf r ≡ readingNumber (readClaim (programIn (now (t .entry))) (now (text .entry)))) × (valuesOf r ≡ readingValues (readClaim (programIn (now (t .entry))) (now (text .entry)))) ⌝ }
+    ensures memory { λ r. ⌜ now (w .exit) ≡ masksAfter (readClaim (programIn (now (t .entry))) (now (text .entry))) noMasks ⌝ }
+{
+    *w = [0u64; 9712];
+    let answer = take(t, text, &mut *w);
+    if number_of(answer) == 0 {
+        return answer;
+    }
+    *w = [0u64; 9712];
+    answer
 }

@@ -2,8 +2,8 @@ pub mod Examples
 pub mod Lines
 pub mod Fields
 pub mod Turn
-pub mod Outcome
 pub mod Numbers
+pub mod Outcome
 pub mod Steady
 pub mod WellFormed
 pub mod Answers

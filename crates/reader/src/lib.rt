@@ -6,11 +6,11 @@ use marks::Stop;
 use text::LineRead;
 ghost use mathlib.Core.Path.{_≡_};
 ghost use Prim.Native.Nat.{ℕ, _+_, _≤_, _<_};
-ghost use lib.ListN.{length};
+ghost use lib.ListN.{length, replicate};
 ghost use Rattle.text.specs.Hex.{linesOf};
-ghost use Rattle.program.specs.Program.{noProgram};
+ghost use Rattle.program.specs.Program.{Program, noProgram};
 ghost use Rattle.program.specs.Tables.{tablesOf};
-ghost use Rattle.reader.specs.Read.{readLines, readProgram, readingNumber, readingValues, tablesAfter, numberOf, valuesOf, lineOf};
+ghost use Rattle.reader.specs.Read.{taken, readLines, readProgram, readingNumber, readingValues, tablesAfter, numberOf, valuesOf, lineOf};
 ghost use Rattle.reader.specs.Inside.{lineAt, framed, framedTables, Walked, answerOf};
 
 // What a text turned out to be. A refusal has its line; that of the length has line 0.
@@ -125,24 +125,23 @@ fn refusal(number: usize, line: usize) -> Answer
     }
 }
 
-// Reads a program text by way of a draft, the tables of no program, which is copied when nothing is left to refuse.
-fn read_by(text: &[u8], draft: &mut [u64; 768], t: &mut [u64; 768]) -> Answer
-    requires { ⌜ now draft ≡ tablesOf noProgram ⌝ }
+// Takes a program text into the tables of no program. Read: they hold the program.
+fn take(text: &[u8], t: &mut [u64; 768]) -> Answer
+    requires { ⌜ now t ≡ tablesOf noProgram ⌝ }
     ensures answer { λ r. ⌜ (numberOf r ≡ readingNumber (readProgram (now (text .entry)))) × (valuesOf r ≡ readingValues (readProgram (now (text .entry)))) ⌝ }
-    ensures memory { λ r. ⌜ now (t .exit) ≡ tablesAfter (readProgram (now (text .entry))) (now (t .entry)) ⌝ }
+    ensures tables { λ r. ⌜ ((p : Program) → readProgram (now (text .entry)) ≡ taken p → now (t .exit) ≡ tablesOf p) ⌝ }
 {
     if 65536 < text.len() {
         return Answer::TooLong;
     }
-    let order = walk(text, &mut *draft);
+    let order = walk(text, &mut *t);
     if order.number != 0 {
         return refusal(order.number, order.line);
     }
-    let value = marks::first_mark(draft);
+    let value = marks::first_mark(t);
     if value.number != 0 {
         return refusal(value.number, value.line);
     }
-    *t = *draft;
     Answer::Read
 }
 
@@ -152,5 +151,24 @@ pub fn read(text: &[u8], t: &mut [u64; 768]) -> Answer
     ensures memory { λ r. ⌜ now (t .exit) ≡ tablesAfter (readProgram (now (text .entry))) (now (t .entry)) ⌝ }
 {
     let mut draft = [0u64; 768];
-    read_by(text, &mut draft, t)
+    let answer = take(text, &mut draft);
+    if number_of(answer) != 0 {
+        return answer;
+    }
+    *t = draft;
+    answer
+}
+
+// The same without a draft, for tables of the caller's own. Refused: they are zero.
+pub fn fill(text: &[u8], t: &mut [u64; 768]) -> Answer
+    ensures answer { λ r. ⌜ (numberOf r ≡ readingNumber (readProgram (now (text .entry)))) × (valuesOf r ≡ readingValues (readProgram (now (text .entry)))) ⌝ }
+    ensures memory { λ r. ⌜ now (t .exit) ≡ tablesAfter (readProgram (now (text .entry))) (replicate 768 0) ⌝ }
+{
+    *t = [0u64; 768];
+    let answer = take(text, &mut *t);
+    if number_of(answer) == 0 {
+        return answer;
+    }
+    *t = [0u64; 768];
+    answer
 }

@@ -7,7 +7,7 @@ ghost use Rattle.flow.specs.Claim.{registerAt, resultAt, fieldOf, staticOf, ret
 ghost use Rattle.slots.specs.Layout.{rowOf, placeOf, maskAt, claimIn};
 
 // The place of register 0 at an address of a method.
-fn row(m: usize, pc: usize) -> usize
+pub fn row(m: usize, pc: usize) -> usize
     ensures value { λ r. ⌜ r ≡ rowOf m pc ⌝ }
 {
     if m < 16 {

@@ -1,7 +1,7 @@
 //! Checks of claims, from the smallest to the largest there can be.
 
 use super::measure::interleaved;
-use super::{line, programs, proved, ROUNDS};
+use super::{library, programs, Measured, ROUNDS};
 use compare::assembly::SAMPLE;
 use compare::checker::{check, LEAST_MEMORY};
 use compare::claim::{class_bits, Claim};
@@ -87,6 +87,13 @@ pub fn all() -> Vec<Check> {
 /// Gives the answer, and may write to the memory.
 type Checker = fn(&[u8], &[u8], &mut [u8]) -> [u64; 5];
 
+fn proved_check(program: &[u8], claim: &[u8], memory: &mut [u8]) -> [u64; 5] {
+    let mut answer = [0; 5];
+    let number = library::check(program, claim, memory, &mut answer);
+    assert_eq!(number, answer[0]);
+    answer
+}
+
 fn rust_check(program: &[u8], claim: &[u8], memory: &mut [u8]) -> [u64; 5] {
     check(program, claim, memory).words()
 }
@@ -97,16 +104,16 @@ fn fresh() -> Vec<u8> {
 
 /// Both check in turn, over and over; each answer and the memory left must be
 /// those of the first check.
-pub fn measure(given: &Check) {
-    let Check { name, program, claim, times, number } = given;
+pub fn measure(given: &Check) -> Measured {
+    let &Check { name, ref program, ref claim, times, number } = given;
     let once = |checker: Checker| {
         let mut memory = fresh();
         let answer = checker(program, claim, &mut memory);
         (answer, memory)
     };
     let (expected, left) = once(rust_check);
-    assert_eq!(expected[0], *number, "{name}");
-    let (proved_answer, proved_left) = once(proved::check);
+    assert_eq!(expected[0], number, "{name}");
+    let (proved_answer, proved_left) = once(proved_check);
     assert_eq!(proved_answer, expected, "{name}: answers of proved and Rust");
     let place = proved_left.iter().zip(&left).position(|(proved, rust)| proved != rust);
     assert_eq!(place, None, "{name}: another byte in the memory");
@@ -115,9 +122,9 @@ pub fn measure(given: &Check) {
     let again = |checker: Checker| {
         let mut memory = before.clone();
         let mut check = || checker(black_box(program), black_box(claim), &mut memory);
-        (0..*times).all(|_| black_box(check()) == expected) && memory == left
+        (0..times).all(|_| black_box(check()) == expected) && memory == left
     };
-    let [proved, rust] = interleaved(ROUNDS, || again(proved::check), || again(rust_check));
-    let name = format!("{name}, {}", program.len() + claim.len());
-    line(&name, &proved, &rust, |seconds| seconds * 1e6 / *times as f64);
+    let [proved, rust] = interleaved(ROUNDS, || again(proved_check), || again(rust_check));
+    let size = program.len() + claim.len();
+    Measured { name: format!("{name}, {size}"), times, size, proved, rust }
 }

@@ -3,17 +3,17 @@ use Rattle.carry.proofs.Tests.{and-passed, and-failed}
 use Rattle.carry.proofs.onward_except.Statement.{statement}
 use Rattle.carry.proofs.onward_except.Tie as tie
 
-carried-except-requires : tie.Need-carried-except-requires
-carried-except-requires c κs = tt
+others-carried-requires : tie.Need-others-carried-requires
+others-carried-requires c κs = tt
 
 result-flows-requires : tie.Need-result-flows-requires
 result-flows-requires c κs = tt
 
 returns : tie.Need-returns
-returns c = and-passed _ _ _ _ (c .before .if1 .taken) (c .before .before .carried-except .ensures) (c .result-flows .ensures)
+returns c = and-passed _ _ _ _ (c .before .if1 .taken) (c .before .before .others-carried .ensures) (c .result-flows .ensures)
 
 returns-2 : tie.Need-returns-2
-returns-2 c = and-failed _ _ _ (c .if1 .left) (c .before .carried-except .ensures)
+returns-2 c = and-failed _ _ _ (c .if1 .left) (c .before .others-carried .ensures)
 
 pub onward-except-spec : {M : Type 1} → statement M
-onward-except-spec = tie.close (tie.spec carried-except-requires result-flows-requires returns returns-2)
+onward-except-spec = tie.close (tie.spec others-carried-requires result-flows-requires returns returns-2)

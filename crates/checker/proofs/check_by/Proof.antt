@@ -5,8 +5,8 @@ use Rattle.checker.proofs.Answers.{refused-checked, claimed-checked}
 use Rattle.checker.proofs.check_by.Statement.{statement}
 use Rattle.checker.proofs.check_by.Tie as tie
 
-read-requires : tie.Need-read-requires
-read-requires c κs = tt
+fill-requires : tie.Need-fill-requires
+fill-requires c κs = tt
 
 number-of-requires : tie.Need-number-of-requires
 number-of-requires c κs = tt
@@ -23,7 +23,7 @@ returns c =
     let r = n .before in
     let a = r .before .before .before .before .before .args in
     rw (n .number-of .ensures, c .line-of .ensures)
-    (refused-checked (a .program .now) (a .claim .now) (a .memory .now) (r .read .result) (r .read .ensures .0 .0) (r .read .ensures .0 .1)
+    (refused-checked (a .program .now) (a .claim .now) (a .memory .now) (r .fill .result) (r .fill .ensures .0 .0) (r .fill .ensures .0 .1)
     (λ z. omega (arith, n .number-of .ensures)))
 
 check-tables-requires : tie.Need-check-tables-requires
@@ -38,14 +38,14 @@ returns-2 c =
     let n = j .before .before .before .before in
     let r = n .before in
     let a = r .before .before .before .before .before .args in
-    claimed-checked (a .program .now) (a .claim .now) (a .memory .now) (r .read .result) (r .read .ensures .0 .0) (r .read .ensures .0 .1)
-    (omega (arith, n .number-of .ensures)) _ _ (r .read .ensures .1) _ _ (j .check-tables .ensures)
+    claimed-checked (a .program .now) (a .claim .now) (a .memory .now) (r .fill .result) (r .fill .ensures .0 .0) (r .fill .ensures .0 .1)
+    (omega (arith, n .number-of .ensures)) _ _ (r .fill .ensures .1) _ _ (j .check-tables .ensures)
 
 pub check-by-spec : {M : Type 1} → statement M
 check-by-spec =
     tie.close
     (tie.spec
-    read-requires
+    fill-requires
     number-of-requires
     cast-t9
     line-of-requires

@@ -6,8 +6,8 @@ use Rattle.checker.proofs.Answers.{refused-claimed, judged-claimed}
 use Rattle.checker.proofs.check_claim.Statement.{statement}
 use Rattle.checker.proofs.check_claim.Tie as tie
 
-read-requires : tie.Need-read-requires
-read-requires c κs = tt
+fill-requires : tie.Need-fill-requires
+fill-requires c κs = tt
 
 number-of-requires : tie.Need-number-of-requires
 number-of-requires c κs = tt
@@ -24,7 +24,7 @@ returns c =
     let r = n .before in
     let a = r .before .before .before .before .args in
     rw (n .number-of .ensures, c .line-of .ensures)
-    (refused-claimed (programIn (a .t .now)) (a .claim .now) (a .memory .now) (r .read .result) (r .read .ensures .0 .0) (r .read .ensures .0 .1)
+    (refused-claimed (programIn (a .t .now)) (a .claim .now) (a .memory .now) (r .fill .result) (r .fill .ensures .0 .0) (r .fill .ensures .0 .1)
     (λ z. omega (arith, n .number-of .ensures)))
 
 judge-requires : tie.Need-judge-requires
@@ -39,14 +39,14 @@ returns-2 c =
     let n = j .before .before .before .before in
     let r = n .before in
     let a = r .before .before .before .before .args in
-    judged-claimed (programIn (a .t .now)) (a .claim .now) (a .memory .now) (r .read .result) (r .read .ensures .0 .0) (r .read .ensures .0 .1)
-    (omega (arith, n .number-of .ensures)) _ _ (r .read .ensures .1) _ _ (j .judge .ensures)
+    judged-claimed (programIn (a .t .now)) (a .claim .now) (a .memory .now) (r .fill .result) (r .fill .ensures .0 .0) (r .fill .ensures .0 .1)
+    (omega (arith, n .number-of .ensures)) _ _ (r .fill .ensures .1) _ _ (j .judge .ensures)
 
 pub check-claim-spec : {M : Type 1} → statement M
 check-claim-spec =
     tie.close
     (tie.spec
-    read-requires
+    fill-requires
     number-of-requires
     cast-t9
     line-of-requires

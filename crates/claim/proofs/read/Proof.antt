@@ -1,15 +1,38 @@
 -- `claim::read` meets its contract. Assumes nothing.
-use mathlib.Core.Path.{refl}
+use mathlib.Core.Path.{refl, sym, _∙_}
+use Rattle.program.specs.Tables.{programIn}
 use Rattle.slots.specs.Layout.{noMasks}
+use Rattle.claim.specs.ReadClaim.{readClaim}
+use Rattle.claim.proofs.Numbers.{numbered}
+use Rattle.claim.proofs.Outcome.{masks-read, masks-refused}
 use Rattle.claim.proofs.read.Statement.{statement}
 use Rattle.claim.proofs.read.Tie as tie
 
-read-by-requires : tie.Need-read-by-requires
+take-requires : tie.Need-take-requires
 unfolding noMasks
-read-by-requires c κs = refl
+take-requires c κs = refl
+
+number-of-requires : tie.Need-number-of-requires
+number-of-requires c κs = tt
 
 returns : tie.Need-returns
-returns c = c .read-by .ensures
+returns c =
+    let a = c .before .before .before .before .before .args in
+    let told = c .before .before .take .ensures in (
+      told .0,
+      masks-refused (readClaim (programIn (a .t .now)) (a .text .now)) (a .w .now)
+          (λ z. c .if1 .taken (c .before .number-of .ensures ∙ told .0 .0 ∙ z)),
+    )
+
+returns-2 : tie.Need-returns-2
+returns-2 c =
+    let a = c .before .before .before .before .before .args in
+    let p = programIn (a .t .now) in
+    let told = c .before .before .take .ensures in (
+      told .0,
+      masks-read (readClaim p (a .text .now)) (numbered p (a .text .now)) _ (a .w .now) (told .1)
+          (sym (told .0 .0) ∙ sym (c .before .number-of .ensures) ∙ c .if1 .left),
+    )
 
 pub read-spec : {M : Type 1} → statement M
-read-spec = tie.close (tie.spec read-by-requires returns)
+read-spec = tie.close (tie.spec take-requires number-of-requires returns returns-2)

@@ -1,0 +1,52 @@
+//! Readings of program texts, from the smallest to the largest there can be.
+
+use super::measure::interleaved;
+use super::{library, programs, Measured, ROUNDS};
+use compare::assembly::SAMPLE;
+use compare::generate::largest_program;
+use compare::reader::{read, MAX_LENGTH};
+use std::hint::black_box;
+
+/// A text, how many readings make one measurement, and the number meant, 0 for
+/// a program.
+pub struct Reading {
+    name: &'static str,
+    text: Vec<u8>,
+    times: usize,
+    number: u64,
+}
+
+pub fn all() -> Vec<Reading> {
+    let of = |name, text, times| Reading { name, text, times, number: 0 };
+    vec![
+        of("sample", SAMPLE.as_bytes().to_vec(), 20_000),
+        of("mixed", programs::mixed().text(), 1_000),
+        of("largest program", largest_program().text(), 60),
+        Reading { number: 3, ..of("refused text", refused_text(), 60) },
+    ]
+}
+
+/// A program, and after it one line that is too long: refusal 3, found when
+/// every byte has been looked at.
+fn refused_text() -> Vec<u8> {
+    let mut program = largest_program();
+    program.statics -= 1;
+    let mut text = program.text();
+    text.resize(MAX_LENGTH - 1, b'0');
+    text.push(b'\n');
+    text
+}
+
+fn rust_read(text: &[u8]) -> u64 {
+    read(text).map_or_else(|refusal| u64::from(refusal.number), |_| 0)
+}
+
+/// Both read a text over and over.
+pub fn measure(given: &Reading) -> Measured {
+    let &Reading { name, ref text, times, number } = given;
+    let again =
+        |read: fn(&[u8]) -> u64| (0..times).all(|_| black_box(read(black_box(text))) == number);
+    assert_eq!([rust_read(text), library::read(text)], [number; 2], "{name}");
+    let [proved, rust] = interleaved(ROUNDS, || again(library::read), || again(rust_read));
+    Measured { name: format!("{name}, {}", text.len()), times, size: text.len(), proved, rust }
+}
