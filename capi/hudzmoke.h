@@ -8,7 +8,7 @@
  *   may be null.
  * - Slices that are lent for writing (frames, objects, statics, memory, answer) overlap neither each other nor a text. Buffers that
  *   overlap are the caller's fault: nothing is promised then of any of them.
- * - There is stack enough: 180 KB for hudzmoke_check, 20 KB for the others (measured).
+ * - There is stack enough: 100 KB for hudzmoke_check, 20 KB for the others (measured).
  */
 #ifndef HUDZMOKE_H
 #define HUDZMOKE_H
