@@ -6,7 +6,7 @@ use Prim.Native.Nat.{ℕ, zero, suc, _+_, _<_, _≤_}
 use native.Mathlib.Omega.{arith}
 use borrow.Author.Tests.{ltb-true, ltb-false, lt-ltb, le-ltb}
 use lib.Dec.{ltb}
-use Rattle.text.proofs.Cases.{by-test}
+use Rattle.text.proofs.Cases.{by-test, both-true}
 use Rattle.mask.specs.declared.Mask.{Mask}
 use Rattle.mask.specs.Mask.{has, every, subset}
 use Rattle.mask.proofs.Laws.{and-false, every-at, every-same, subset-all}
@@ -14,7 +14,7 @@ use Rattle.mask.proofs.Sets.{no-bit}
 use Rattle.flow.specs.Claim.{registerAt}
 use Rattle.slots.specs.Layout.{claimSize, rowOf, placeOf, maskOf, maskAt, claimIn}
 use Rattle.slots.proofs.Places.{row-in}
-use Rattle.carry.specs.Carried.{wordIn, rowIn}
+use Rattle.carry.specs.Carried.{wordIn, rowIn, rowFlows}
 
 -- ---- bits gathered
 and-four : (a b c d : Bool) → (a && b) && (c && d) ≡ (a && c) && (b && d)
@@ -57,15 +57,32 @@ register-past ws m pc r l = rw (le-ltb r 16 l)
 pub row-inside : (m pc : ℕ) → m < 16 → pc < 32 → rowOf m pc + 16 ≤ claimSize
 row-inside m pc l h = omega (arith, row-in m pc l h)
 
--- where the first 16 words of one row are in those of another, all registers are: any further one lies past the last word at both
--- addresses
-pub registers-in : (b : Bool) (ws : List ℕ) (m pc to x y : ℕ) → b ≡ rowIn ws x y → x ≡ rowOf m pc → y ≡ rowOf m to → b ≡ true
-    → (r : ℕ) → subset (claimIn ws (registerAt m pc r)) (claimIn ws (registerAt m to r)) ≡ true
-registers-in b ws m pc to x y e f g passed r =
+-- what `row_flows` answers: of two rows that a method has, and where there is none
+pub rows-in : (b : Bool) (ws : List ℕ) (m pc to x y : ℕ) → m < 16 → pc < 32 → to < 32 → b ≡ rowIn ws x y → x ≡ rowOf m pc → y ≡ rowOf m to
+    → b ≡ rowFlows ws m pc to
+rows-in b ws m pc to x y l h k e f g = rw (lt-ltb m 16 l, lt-ltb pc 32 h, lt-ltb to 32 k, ← f, ← g) e
+
+pub no-target : (ws : List ℕ) (m pc to : ℕ) → 32 ≤ to → false ≡ rowFlows ws m pc to
+no-target ws m pc to l = rw (le-ltb to 32 l) (sym (ap (_&&_ (ltb m 16)) (and-false (ltb pc 32)) ∙ and-false (ltb m 16)))
+
+pub no-address : (ws : List ℕ) (m pc to : ℕ) → 32 ≤ pc → false ≡ rowFlows ws m pc to
+no-address ws m pc to l = rw (le-ltb pc 32 l) (sym (and-false (ltb m 16)))
+
+pub no-method : (ws : List ℕ) (m pc to : ℕ) → 16 ≤ m → false ≡ rowFlows ws m pc to
+no-method ws m pc to l = rw (le-ltb m 16 l) refl
+
+-- where a row is in another, all registers are: any past the 16 lies past the last word at both addresses
+pub registers-in : (ws : List ℕ) (m pc to : ℕ) → rowFlows ws m pc to ≡ true → (r : ℕ)
+    → subset (claimIn ws (registerAt m pc r)) (claimIn ws (registerAt m to r)) ≡ true
+registers-in ws m pc to e r =
+    let row = rowIn ws (rowOf m pc) (rowOf m to) in
+    let a = both-true (ltb m 16) (ltb pc 32 && (ltb to 32 && row)) e in
+    let b = both-true (ltb pc 32) (ltb to 32 && row) (a .1) in
+    let passed = both-true (ltb to 32) row (b .1) .1 in
     by-test (ltb r 16)
     (λ t.
     let l = ltb-true r 16 t in
-    rw (register-word ws m pc r l, register-word ws m to r l, ← f, ← g) (every-at 16 (wordIn ws x y) (sym e ∙ passed) r l))
+    rw (register-word ws m pc r l, register-word ws m to r l) (every-at 16 (wordIn ws (rowOf m pc) (rowOf m to)) passed r l))
     (λ t.
     let l = ltb-false r 16 t in
     rw (register-past ws m pc r l, register-past ws m to r l) (subset-all _ _ (λ k h. h)))

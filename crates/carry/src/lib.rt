@@ -2,15 +2,14 @@
 // tables and words: what it answers is said of the program and the claim that stand in them.
 use mask::Mask;
 ghost use mathlib.Core.Path.{_≡_};
-ghost use mathlib.Core.Bool.{true};
 ghost use Prim.Native.Nat.{ℕ, _+_, _-_, _≤_};
 ghost use Rattle.program.specs.Program.{registers, arguments};
 ghost use Rattle.program.specs.Tables.{programIn};
-ghost use Rattle.flow.specs.Claim.{registerAt, resultAt};
+ghost use Rattle.flow.specs.Claim.{resultAt};
 ghost use Rattle.flow.specs.Flows.{_⊆_, kept};
 ghost use Rattle.flow.specs.Rules.{initialMemory, entry, carried, onward, onwardExcept};
 ghost use Rattle.slots.specs.Layout.{claimIn};
-ghost use Rattle.carry.specs.Carried.{rowIn, carriedExcept, argumentsFrom, classFields, allFields, allStatics};
+ghost use Rattle.carry.specs.Carried.{rowIn, rowFlows, carriedExcept, argumentsFrom, classFields, allFields, allStatics};
 
 // Whether the masks in 16 words from one place on are in those from another: no bit is in one word and not in the other.
 fn row_in(w: &[u64; 9712], from: usize, to: usize) -> bool
@@ -32,13 +31,16 @@ fn row_in(w: &[u64; 9712], from: usize, to: usize) -> bool
 // A quick test, of a whole row at once: where it passes, all registers at an address flow to another. Where it fails, those that are
 // asked may still do.
 fn row_flows(w: &[u64; 9712], m: usize, pc: usize, to: usize) -> bool
-    ensures flow { λ r. ⌜ (r ≡ true → (k : ℕ) → kept (claimIn (now (w .entry))) (registerAt m pc k ⊆ registerAt m to k) ≡ true) ⌝ }
+    ensures value { λ r. ⌜ r ≡ rowFlows (now (w .entry)) m pc to ⌝ }
 {
-    if m < 16 && pc < 32 && to < 32 {
-        row_in(w, slots::row(m, pc), slots::row(m, to))
-    } else {
-        false
+    if m < 16 {
+        if pc < 32 {
+            if to < 32 {
+                return row_in(w, slots::row(m, pc), slots::row(m, to));
+            }
+        }
     }
+    false
 }
 
 // Whether all registers at one address of a method, but register a, flow to another address.

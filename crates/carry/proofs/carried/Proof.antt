@@ -1,6 +1,6 @@
 -- `carry::carried` meets its contract: where all registers flow, those asked do; and a method has at most 255 registers, so that none
 -- is left out. Assumes nothing.
-use mathlib.Core.Path.{sym}
+use mathlib.Core.Path.{sym, _∙_}
 use mathlib.Core.Bool.{Bool}
 use mathlib.Core.List.{List}
 use Prim.Native.Nat.{ℕ}
@@ -11,6 +11,7 @@ use Rattle.program.specs.Tables.{programIn}
 use Rattle.flow.specs.Claim.{registerAt}
 use Rattle.flow.specs.Flows.{_⊆_, kept}
 use Rattle.slots.specs.Layout.{claimIn}
+use Rattle.carry.proofs.Rows.{registers-in}
 use Rattle.carry.proofs.Tests.{none-left-out}
 use Rattle.carry.proofs.carried.Statement.{statement}
 use Rattle.carry.proofs.carried.Tie as tie
@@ -30,7 +31,7 @@ returns : tie.Need-returns
 returns c =
     let f = c .before in
     let a = f .before .args in
-    sym (every-all (registers (programIn (a .t .now)) (a .m)) (test (a .w .now) (a .m) (a .pc) (a .to)) (λ r l. f .row-flows .ensures (c .if1 .taken) r))
+    sym (every-all (registers (programIn (a .t .now)) (a .m)) (test (a .w .now) (a .m) (a .pc) (a .to)) (λ r l. registers-in (a .w .now) (a .m) (a .pc) (a .to) (sym (f .row-flows .ensures) ∙ c .if1 .taken) r))
 
 returns-2 : tie.Need-returns-2
 returns-2 c =
