@@ -1,4 +1,5 @@
-// The checker's and the stepper's answers as words: a number and, where five words are lent, those. docs/FORMATS.md says what each means.
+// Answers as the five words that an export writes, where so many are lent, and the number of each; the number of a fault, which is printed
+// and told too. docs/FORMATS.md says what each word means.
 use bounded::Outcome;
 use bounded::Pending;
 use machine::Fault;
@@ -71,7 +72,7 @@ fn put(answer: &mut [u64], number: u64, first: u64, pending: u64, frames: u64, o
     number
 }
 
-// Writes what `plain::step` answered as five words, and answers its number.
+// Writes what the stepper answered as five words, and answers its number.
 pub fn put_outcome(answer: &mut [u64], o: Outcome) -> u64
     ensures number { λ r. ⌜ r ≡ numberOf o ⌝ }
     ensures memory { λ r. ⌜ now (answer .exit) ≡ answered (numberOf o) (valuesOf o) (now (answer .entry)) ⌝ }

@@ -12,7 +12,7 @@ use Rattle.cells.specs.declared.Frame.{Frame}
 use Rattle.cells.specs.declared.Object.{Object}
 use Rattle.cells.specs.Cells.{cellOf, zeroValue, zeroFrame, zeroObject, framesOf, objectsOf, staticsOf}
 
--- "object 0 and number 0 differ"
+-- object 0 and number 0 differ
 object-0-number-0 : eqb (cellOf (Reference 0) .object) (cellOf (Number (pos 0)) .object) ≡ false
 object-0-number-0 = refl
 

@@ -15,7 +15,7 @@ use Rattle.cells.specs.declared.Value.{Value}
 use Rattle.cells.specs.declared.Frame.{Frame}
 use Rattle.cells.specs.declared.Object.{Object}
 
--- a number is itself, an object one more than its number: "object 0 and number 0 differ"
+-- a number is itself, an object one more than its number, so that object 0 and number 0 differ
 abbrev pub cellOf : machine.Value → Value
 cellOf (Number z) = record { object = 0; number = z }
 cellOf (Reference o) = record { object = suc o; number = pos 0 }

@@ -60,7 +60,7 @@ module _ {p : Program} {s : State} {before : Lent} {k : Tally} {now : Lent} {f :
     (h : Ready p s before k now f rest) where
   -- what the instruction decides of the values in the state, and of the values read, is its effect
   module _ (stays : leavesOf (site h) ≡ false) (i : Instruction) (chosen : i ≡ instructionOf (site h .word)) where
-    -- "Each register … named must exist"
+    -- "Each register, address, class, field, static and method named must exist"
     names : Holds (named (limitsOf p (f .method)) (instructionOf (site h .word)))
     names = method h .names (f .address) (h .here .inside)
 

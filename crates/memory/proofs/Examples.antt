@@ -38,7 +38,7 @@ last-object-back = refl
 minus-one-word : valueWord (Number (negsuc 0)) ≡ 4294967295
 minus-one-word = refl
 
--- "object 0 and number 0 differ"
+-- object 0 and number 0 differ
 object-0-number-0 : eqb (valueWord (Reference 0)) (valueWord (Number (pos 0))) ≡ false
 object-0-number-0 = refl
 

@@ -16,7 +16,7 @@ use Rattle.machine.specs.declared.Value.{Value}
 use Rattle.machine.specs.declared.Value.the-variants.{Number, Reference}
 use Rattle.machine.specs.State.{Frame, Object, State, null, noFrame, register, objectAt, static}
 
--- a number is its 32 bits, an object 2 ^ 32 and its number: "object 0 and number 0 differ"
+-- a number is its 32 bits, an object 2 ^ 32 and its number, so that object 0 and number 0 differ
 abbrev pub valueWord : Value → ℕ
 valueWord (Number z) = low z
 valueWord (Reference o) = 4294967296 + o

@@ -1,5 +1,5 @@
-// The searches that checker and stepper share, over a program in tables: superclass test, fields of a class, virtual search,
-// handler search. Every function takes any words.
+// Searches over a program in tables: superclass test, fields of a class, virtual search, handler search. The stepper uses them all; the
+// claim's reader and the checker use `has_field` and `method_in`, and go by sets of classes else. Every function takes any words.
 ghost use mathlib.Core.Path.{_≡_};
 ghost use Prim.Native.Nat.{ℕ};
 ghost use Rattle.program.specs.Tables.{programIn};
