@@ -16,9 +16,16 @@ ghost use Rattle.checker.specs.Coverage.{Coverage, Accepting};
 
 // The verdict on the claim that stands in words.
 fn judge(t: &[u64; 768], w: &[u64; 9712], memory: &mut [u8]) -> Verdict
-    ensures verdict { λ r. ⌜ r ≡ answerFor (judged (programIn (now (t .entry))) (claimIn (now (w .entry))) (length (now (memory .entry)))) ⌝ }
-    ensures memory { λ r. ⌜ now (memory .exit) ≡ memoryAfter (judged (programIn (now (t .entry))) (claimIn (now (w .entry))) (length (now (memory .entry)))) (now (memory .entry)) ⌝ }
-    ensures list { λ r. ⌜ ((k : ℕ) → r ≡ Accepted k → (verdict (programIn (now (t .entry))) (claimIn (now (w .entry))) ≡ accepted) × (callsIn k (now (memory .exit)) ≡ callList (programIn (now (t .entry))) (claimIn (now (w .entry))))) ⌝ }
+    ensures verdict { λ r.
+        let x = judged (programIn (now (t .entry))) (claimIn (now (w .entry))) (length (now (memory .entry))) in
+        ⌜ r ≡ answerFor x ⌝ }
+    ensures memory { λ r.
+        let x = judged (programIn (now (t .entry))) (claimIn (now (w .entry))) (length (now (memory .entry))) in
+        ⌜ now (memory .exit) ≡ memoryAfter x (now (memory .entry)) ⌝ }
+    ensures list { λ r.
+        let p = programIn (now (t .entry)) in
+        let c = claimIn (now (w .entry)) in
+        ⌜ ((k : ℕ) → r ≡ Accepted k → (verdict p c ≡ accepted) × (callsIn k (now (memory .exit)) ≡ callList p c)) ⌝ }
 {
     if memory.len() < 24576 {
         return Verdict::Short;
@@ -36,9 +43,17 @@ fn judge(t: &[u64; 768], w: &[u64; 9712], memory: &mut [u8]) -> Verdict
 
 // The verdict on a claim's text, by way of words for its masks.
 fn check_claim(t: &[u64; 768], claim: &[u8], w: &mut [u64; 9712], memory: &mut [u8]) -> Verdict
-    ensures verdict { λ r. ⌜ r ≡ answerFor (withClaim (programIn (now (t .entry))) (length (now (memory .entry))) (readClaim (programIn (now (t .entry))) (now (claim .entry)))) ⌝ }
-    ensures memory { λ r. ⌜ now (memory .exit) ≡ memoryAfter (withClaim (programIn (now (t .entry))) (length (now (memory .entry))) (readClaim (programIn (now (t .entry))) (now (claim .entry)))) (now (memory .entry)) ⌝ }
-    ensures accepting { λ r. ⌜ ((k : ℕ) → r ≡ Accepted k → Accepting (programIn (now (t .entry))) (now (claim .entry)) (callsIn k (now (memory .exit)))) ⌝ }
+    ensures verdict { λ r.
+        let p = programIn (now (t .entry)) in
+        let x = withClaim p (length (now (memory .entry))) (readClaim p (now (claim .entry))) in
+        ⌜ r ≡ answerFor x ⌝ }
+    ensures memory { λ r.
+        let p = programIn (now (t .entry)) in
+        let x = withClaim p (length (now (memory .entry))) (readClaim p (now (claim .entry))) in
+        ⌜ now (memory .exit) ≡ memoryAfter x (now (memory .entry)) ⌝ }
+    ensures accepting { λ r.
+        let p = programIn (now (t .entry)) in
+        ⌜ ((k : ℕ) → r ≡ Accepted k → Accepting p (now (claim .entry)) (callsIn k (now (memory .exit)))) ⌝ }
 {
     let read = claim::fill(t, claim, &mut *w);
     let number = claim::number_of(read);
@@ -53,9 +68,17 @@ fn check_claim(t: &[u64; 768], claim: &[u8], w: &mut [u64; 9712], memory: &mut [
 
 // The same, with words of its own.
 fn check_tables(t: &[u64; 768], claim: &[u8], memory: &mut [u8]) -> Verdict
-    ensures verdict { λ r. ⌜ r ≡ answerFor (withClaim (programIn (now (t .entry))) (length (now (memory .entry))) (readClaim (programIn (now (t .entry))) (now (claim .entry)))) ⌝ }
-    ensures memory { λ r. ⌜ now (memory .exit) ≡ memoryAfter (withClaim (programIn (now (t .entry))) (length (now (memory .entry))) (readClaim (programIn (now (t .entry))) (now (claim .entry)))) (now (memory .entry)) ⌝ }
-    ensures accepting { λ r. ⌜ ((k : ℕ) → r ≡ Accepted k → Accepting (programIn (now (t .entry))) (now (claim .entry)) (callsIn k (now (memory .exit)))) ⌝ }
+    ensures verdict { λ r.
+        let p = programIn (now (t .entry)) in
+        let x = withClaim p (length (now (memory .entry))) (readClaim p (now (claim .entry))) in
+        ⌜ r ≡ answerFor x ⌝ }
+    ensures memory { λ r.
+        let p = programIn (now (t .entry)) in
+        let x = withClaim p (length (now (memory .entry))) (readClaim p (now (claim .entry))) in
+        ⌜ now (memory .exit) ≡ memoryAfter x (now (memory .entry)) ⌝ }
+    ensures accepting { λ r.
+        let p = programIn (now (t .entry)) in
+        ⌜ ((k : ℕ) → r ≡ Accepted k → Accepting p (now (claim .entry)) (callsIn k (now (memory .exit)))) ⌝ }
 {
     let mut w = [0u64; 9712];
     check_claim(t, claim, &mut w, memory)
@@ -64,8 +87,12 @@ fn check_tables(t: &[u64; 768], claim: &[u8], memory: &mut [u8]) -> Verdict
 // The verdict on a program's text and a claim's, by way of tables for the program.
 fn check_by(program: &[u8], claim: &[u8], t: &mut [u64; 768], memory: &mut [u8]) -> Verdict
     ensures verdict { λ r. ⌜ r ≡ answerFor (checking (now (program .entry)) (now (claim .entry)) (length (now (memory .entry)))) ⌝ }
-    ensures memory { λ r. ⌜ now (memory .exit) ≡ memoryAfter (checking (now (program .entry)) (now (claim .entry)) (length (now (memory .entry)))) (now (memory .entry)) ⌝ }
-    ensures coverage { λ r. ⌜ ((k : ℕ) → r ≡ Accepted k → Coverage (now (program .entry)) (now (claim .entry)) (callsIn k (now (memory .exit)))) ⌝ }
+    ensures memory { λ r.
+        let x = checking (now (program .entry)) (now (claim .entry)) (length (now (memory .entry))) in
+        ⌜ now (memory .exit) ≡ memoryAfter x (now (memory .entry)) ⌝ }
+    ensures coverage { λ r.
+        let after = now (memory .exit) in
+        ⌜ ((k : ℕ) → r ≡ Accepted k → Coverage (now (program .entry)) (now (claim .entry)) (callsIn k after)) ⌝ }
 {
     let read = reader::fill(program, &mut *t);
     let number = reader::number_of(read);
@@ -82,9 +109,15 @@ fn check_by(program: &[u8], claim: &[u8], t: &mut [u64; 768], memory: &mut [u8])
 // nothing past it is touched. Else nothing is touched.
 pub fn check(program: &[u8], claim: &[u8], memory: &mut [u8]) -> Verdict
     ensures verdict { λ r. ⌜ r ≡ answerFor (checking (now (program .entry)) (now (claim .entry)) (length (now (memory .entry)))) ⌝ }
-    ensures numbers { λ r. ⌜ (numberOf r ≡ checkingNumber (checking (now (program .entry)) (now (claim .entry)) (length (now (memory .entry))))) × (valuesOf r ≡ checkingValues (checking (now (program .entry)) (now (claim .entry)) (length (now (memory .entry))))) ⌝ }
-    ensures memory { λ r. ⌜ now (memory .exit) ≡ memoryAfter (checking (now (program .entry)) (now (claim .entry)) (length (now (memory .entry)))) (now (memory .entry)) ⌝ }
-    ensures coverage { λ r. ⌜ ((k : ℕ) → r ≡ Accepted k → Coverage (now (program .entry)) (now (claim .entry)) (callsIn k (now (memory .exit)))) ⌝ }
+    ensures numbers { λ r.
+        let x = checking (now (program .entry)) (now (claim .entry)) (length (now (memory .entry))) in
+        ⌜ (numberOf r ≡ checkingNumber x) × (valuesOf r ≡ checkingValues x) ⌝ }
+    ensures memory { λ r.
+        let x = checking (now (program .entry)) (now (claim .entry)) (length (now (memory .entry))) in
+        ⌜ now (memory .exit) ≡ memoryAfter x (now (memory .entry)) ⌝ }
+    ensures coverage { λ r.
+        let after = now (memory .exit) in
+        ⌜ ((k : ℕ) → r ≡ Accepted k → Coverage (now (program .entry)) (now (claim .entry)) (callsIn k after)) ⌝ }
 {
     let mut t = [0u64; 768];
     check_by(program, claim, &mut t, memory)

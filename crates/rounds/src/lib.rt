@@ -16,7 +16,10 @@ fn one(
     statics: &mut [Value],
     k: Stay,
 ) -> Stay
-    ensures after { λ r. ⌜ done r (lent (now (frames .exit)) (now (objects .exit)) (now (statics .exit))) ≡ oneDone (now (t .entry)) (lent (now (frames .entry)) (now (objects .entry)) (now (statics .entry))) k ⌝ }
+    ensures after { λ r.
+        let before = lent (now (frames .entry)) (now (objects .entry)) (now (statics .entry)) in
+        let after = lent (now (frames .exit)) (now (objects .exit)) (now (statics .exit)) in
+        ⌜ done r after ≡ oneDone (now (t .entry)) before k ⌝ }
 {
     let s = shift::site_of(t, k);
     let g = work::perform(t, frames, objects, statics, s);
@@ -31,7 +34,10 @@ fn stay(
     statics: &mut [Value],
     k: Stay,
 ) -> Stay
-    ensures after { λ r. ⌜ done r (lent (now (frames .exit)) (now (objects .exit)) (now (statics .exit))) ≡ stayDone (now (t .entry)) (lent (now (frames .entry)) (now (objects .entry)) (now (statics .entry))) k ⌝ }
+    ensures after { λ r.
+        let before = lent (now (frames .entry)) (now (objects .entry)) (now (statics .entry)) in
+        let after = lent (now (frames .exit)) (now (objects .exit)) (now (statics .exit)) in
+        ⌜ done r after ≡ stayDone (now (t .entry)) before k ⌝ }
 {
     let mut j = k;
     while shift::goes(t, j) {
@@ -48,7 +54,10 @@ fn forth(
     statics: &mut [Value],
     k: Run,
 ) -> Run
-    ensures after { λ r. ⌜ done r (lent (now (frames .exit)) (now (objects .exit)) (now (statics .exit))) ≡ forthDone (now (t .entry)) (lent (now (frames .entry)) (now (objects .entry)) (now (statics .entry))) k ⌝ }
+    ensures after { λ r.
+        let before = lent (now (frames .entry)) (now (objects .entry)) (now (statics .entry)) in
+        let after = lent (now (frames .exit)) (now (objects .exit)) (now (statics .exit)) in
+        ⌜ done r after ≡ forthDone (now (t .entry)) before k ⌝ }
 {
     let h = shift::raised_at(k);
     let w = shift::looked(h);
@@ -68,7 +77,10 @@ fn back(
     statics: &mut [Value],
     k: Run,
 ) -> Run
-    ensures after { λ r. ⌜ done r (lent (now (frames .exit)) (now (objects .exit)) (now (statics .exit))) ≡ backDone (now (t .entry)) (lent (now (frames .entry)) (now (objects .entry)) (now (statics .entry))) k ⌝ }
+    ensures after { λ r.
+        let before = lent (now (frames .entry)) (now (objects .entry)) (now (statics .entry)) in
+        let after = lent (now (frames .exit)) (now (objects .exit)) (now (statics .exit)) in
+        ⌜ done r after ≡ backDone (now (t .entry)) before k ⌝ }
 {
     let h = shift::raised_at(k);
     turns::unwind(t, frames, objects, statics, h)
@@ -81,7 +93,10 @@ fn round(
     statics: &mut [Value],
     k: Run,
 ) -> Run
-    ensures after { λ r. ⌜ done r (lent (now (frames .exit)) (now (objects .exit)) (now (statics .exit))) ≡ roundDone (now (t .entry)) (lent (now (frames .entry)) (now (objects .entry)) (now (statics .entry))) k ⌝ }
+    ensures after { λ r.
+        let before = lent (now (frames .entry)) (now (objects .entry)) (now (statics .entry)) in
+        let after = lent (now (frames .exit)) (now (objects .exit)) (now (statics .exit)) in
+        ⌜ done r after ≡ roundDone (now (t .entry)) before k ⌝ }
 {
     if shift::is_running(k) {
         forth(t, frames, objects, statics, k)
@@ -98,7 +113,10 @@ pub fn run(
     statics: &mut [Value],
     k: Run,
 ) -> Run
-    ensures after { λ r. ⌜ done r (lent (now (frames .exit)) (now (objects .exit)) (now (statics .exit))) ≡ runDone (now (t .entry)) (lent (now (frames .entry)) (now (objects .entry)) (now (statics .entry))) k ⌝ }
+    ensures after { λ r.
+        let before = lent (now (frames .entry)) (now (objects .entry)) (now (statics .entry)) in
+        let after = lent (now (frames .exit)) (now (objects .exit)) (now (statics .exit)) in
+        ⌜ done r after ≡ runDone (now (t .entry)) before k ⌝ }
 {
     let mut j = k;
     while shift::runs(t, j) {

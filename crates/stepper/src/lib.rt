@@ -19,7 +19,10 @@ fn start(
     statics: &mut [Value],
     b: Beginning,
 ) -> Run
-    ensures after { λ r. ⌜ done r (lent (now (frames .exit)) (now (objects .exit)) (now (statics .exit))) ≡ startDone (now (t .entry)) (lent (now (frames .entry)) (now (objects .entry)) (now (statics .entry))) b ⌝ }
+    ensures after { λ r.
+        let before = lent (now (frames .entry)) (now (objects .entry)) (now (statics .entry)) in
+        let after = lent (now (frames .exit)) (now (objects .exit)) (now (statics .exit)) in
+        ⌜ done r after ≡ startDone (now (t .entry)) before b ⌝ }
 {
     let f = cells::zero_frame();
     let o = cells::zero_object();
@@ -38,8 +41,14 @@ pub fn step(
     objects: &mut [Object],
     statics: &mut [Value],
 ) -> Outcome
-    ensures answer { λ r. ⌜ (numberOf r ≡ steppingNumber (lending (now (text .entry)) n (now (frames .entry)) (now (objects .entry)) (now (statics .entry)))) × (valuesOf r ≡ steppingValues (lending (now (text .entry)) n (now (frames .entry)) (now (objects .entry)) (now (statics .entry)))) ⌝ }
-    ensures memory { λ r. ⌜ (now (frames .exit) ≡ framesLeft (lending (now (text .entry)) n (now (frames .entry)) (now (objects .entry)) (now (statics .entry))) (now (frames .entry))) × (now (objects .exit) ≡ objectsLeft (lending (now (text .entry)) n (now (frames .entry)) (now (objects .entry)) (now (statics .entry))) (now (objects .entry))) × (now (statics .exit) ≡ staticsLeft (lending (now (text .entry)) n (now (frames .entry)) (now (objects .entry)) (now (statics .entry))) (now (statics .entry))) ⌝ }
+    ensures answer { λ r.
+        let x = lending (now (text .entry)) n (now (frames .entry)) (now (objects .entry)) (now (statics .entry)) in
+        ⌜ (numberOf r ≡ steppingNumber x) × (valuesOf r ≡ steppingValues x) ⌝ }
+    ensures memory { λ r.
+        let x = lending (now (text .entry)) n (now (frames .entry)) (now (objects .entry)) (now (statics .entry)) in
+        ⌜ (now (frames .exit) ≡ framesLeft x (now (frames .entry)))
+        × (now (objects .exit) ≡ objectsLeft x (now (objects .entry)))
+        × (now (statics .exit) ≡ staticsLeft x (now (statics .entry))) ⌝ }
 {
     let mut t = [0u64; 768];
     let f = frames.len();

@@ -8,7 +8,8 @@ use shift::Pass;
 use shift::Run;
 ghost use mathlib.Core.Path.{_≡_};
 ghost use Rattle.drive.specs.Models.{done, lent};
-ghost use Rattle.turns.specs.Turns.{passOne, passDone, makeDone, staticDone, virtualDone, leaveDone, throwDone, unwindDone, restDone, fromThrow, fromExit, fromVirtual, applied, executed};
+ghost use Rattle.turns.specs.Turns.{passOne, passDone, makeDone, staticDone, virtualDone, leaveDone, throwDone, unwindDone, restDone};
+ghost use Rattle.turns.specs.Turns.{fromThrow, fromExit, fromVirtual, applied, executed};
 
 // One argument is passed.
 fn pass_one(
@@ -18,7 +19,10 @@ fn pass_one(
     statics: &mut [Value],
     p: Pass,
 ) -> Pass
-    ensures after { λ r. ⌜ done r (lent (now (frames .exit)) (now (objects .exit)) (now (statics .exit))) ≡ passOne (now (t .entry)) (lent (now (frames .entry)) (now (objects .entry)) (now (statics .entry))) p ⌝ }
+    ensures after { λ r.
+        let before = lent (now (frames .entry)) (now (objects .entry)) (now (statics .entry)) in
+        let after = lent (now (frames .exit)) (now (objects .exit)) (now (statics .exit)) in
+        ⌜ done r after ≡ passOne (now (t .entry)) before p ⌝ }
 {
     let none = cells::zero_value();
     let x = store::register_at(frames, p.top, p.from, none);
@@ -34,7 +38,10 @@ fn pass(
     statics: &mut [Value],
     p: Pass,
 ) -> Pass
-    ensures after { λ r. ⌜ done r (lent (now (frames .exit)) (now (objects .exit)) (now (statics .exit))) ≡ passDone (now (t .entry)) (lent (now (frames .entry)) (now (objects .entry)) (now (statics .entry))) p ⌝ }
+    ensures after { λ r.
+        let before = lent (now (frames .entry)) (now (objects .entry)) (now (statics .entry)) in
+        let after = lent (now (frames .exit)) (now (objects .exit)) (now (statics .exit)) in
+        ⌜ done r after ≡ passDone (now (t .entry)) before p ⌝ }
 {
     let mut j = p;
     while shift::passes(t, j) {
@@ -51,7 +58,10 @@ fn make(
     statics: &mut [Value],
     h: At,
 ) -> Run
-    ensures after { λ r. ⌜ done r (lent (now (frames .exit)) (now (objects .exit)) (now (statics .exit))) ≡ makeDone (now (t .entry)) (lent (now (frames .entry)) (now (objects .entry)) (now (statics .entry))) h ⌝ }
+    ensures after { λ r.
+        let before = lent (now (frames .entry)) (now (objects .entry)) (now (statics .entry)) in
+        let after = lent (now (frames .exit)) (now (objects .exit)) (now (statics .exit)) in
+        ⌜ done r after ≡ makeDone (now (t .entry)) before h ⌝ }
 {
     let w = shift::looked(h);
     let m = store::method_at(frames, w.top, w.missing);
@@ -80,7 +90,10 @@ fn call_static(
     statics: &mut [Value],
     h: At,
 ) -> Run
-    ensures after { λ r. ⌜ done r (lent (now (frames .exit)) (now (objects .exit)) (now (statics .exit))) ≡ staticDone (now (t .entry)) (lent (now (frames .entry)) (now (objects .entry)) (now (statics .entry))) h ⌝ }
+    ensures after { λ r.
+        let before = lent (now (frames .entry)) (now (objects .entry)) (now (statics .entry)) in
+        let after = lent (now (frames .exit)) (now (objects .exit)) (now (statics .exit)) in
+        ⌜ done r after ≡ staticDone (now (t .entry)) before h ⌝ }
 {
     let w = shift::looked(h);
     let m = store::method_at(frames, w.top, w.missing);
@@ -109,7 +122,10 @@ fn call_virtual(
     statics: &mut [Value],
     h: At,
 ) -> Run
-    ensures after { λ r. ⌜ done r (lent (now (frames .exit)) (now (objects .exit)) (now (statics .exit))) ≡ virtualDone (now (t .entry)) (lent (now (frames .entry)) (now (objects .entry)) (now (statics .entry))) h ⌝ }
+    ensures after { λ r.
+        let before = lent (now (frames .entry)) (now (objects .entry)) (now (statics .entry)) in
+        let after = lent (now (frames .exit)) (now (objects .exit)) (now (statics .exit)) in
+        ⌜ done r after ≡ virtualDone (now (t .entry)) before h ⌝ }
 {
     let w = shift::looked(h);
     let m = store::method_at(frames, w.top, w.missing);
@@ -138,7 +154,10 @@ fn leave(
     statics: &mut [Value],
     h: At,
 ) -> Run
-    ensures after { λ r. ⌜ done r (lent (now (frames .exit)) (now (objects .exit)) (now (statics .exit))) ≡ leaveDone (now (t .entry)) (lent (now (frames .entry)) (now (objects .entry)) (now (statics .entry))) h ⌝ }
+    ensures after { λ r.
+        let before = lent (now (frames .entry)) (now (objects .entry)) (now (statics .entry)) in
+        let after = lent (now (frames .exit)) (now (objects .exit)) (now (statics .exit)) in
+        ⌜ done r after ≡ leaveDone (now (t .entry)) before h ⌝ }
 {
     let w = shift::looked(h);
     let m = store::method_at(frames, w.top, w.missing);
@@ -167,7 +186,10 @@ fn raise(
     statics: &mut [Value],
     h: At,
 ) -> Run
-    ensures after { λ r. ⌜ done r (lent (now (frames .exit)) (now (objects .exit)) (now (statics .exit))) ≡ throwDone (now (t .entry)) (lent (now (frames .entry)) (now (objects .entry)) (now (statics .entry))) h ⌝ }
+    ensures after { λ r.
+        let before = lent (now (frames .entry)) (now (objects .entry)) (now (statics .entry)) in
+        let after = lent (now (frames .exit)) (now (objects .exit)) (now (statics .exit)) in
+        ⌜ done r after ≡ throwDone (now (t .entry)) before h ⌝ }
 {
     let w = shift::looked(h);
     let m = store::method_at(frames, w.top, w.missing);
@@ -196,7 +218,10 @@ pub fn unwind(
     statics: &mut [Value],
     h: At,
 ) -> Run
-    ensures after { λ r. ⌜ done r (lent (now (frames .exit)) (now (objects .exit)) (now (statics .exit))) ≡ unwindDone (now (t .entry)) (lent (now (frames .entry)) (now (objects .entry)) (now (statics .entry))) h ⌝ }
+    ensures after { λ r.
+        let before = lent (now (frames .entry)) (now (objects .entry)) (now (statics .entry)) in
+        let after = lent (now (frames .exit)) (now (objects .exit)) (now (statics .exit)) in
+        ⌜ done r after ≡ unwindDone (now (t .entry)) before h ⌝ }
 {
     let w = shift::looked(h);
     let m = store::method_at(frames, w.top, w.missing);
@@ -225,7 +250,10 @@ fn rest(
     statics: &mut [Value],
     h: At,
 ) -> Run
-    ensures after { λ r. ⌜ done r (lent (now (frames .exit)) (now (objects .exit)) (now (statics .exit))) ≡ restDone (now (t .entry)) (lent (now (frames .entry)) (now (objects .entry)) (now (statics .entry))) h ⌝ }
+    ensures after { λ r.
+        let before = lent (now (frames .entry)) (now (objects .entry)) (now (statics .entry)) in
+        let after = lent (now (frames .exit)) (now (objects .exit)) (now (statics .exit)) in
+        ⌜ done r after ≡ restDone (now (t .entry)) before h ⌝ }
 {
     shift::others(h)
 }
@@ -238,7 +266,10 @@ fn from_throw(
     statics: &mut [Value],
     h: At,
 ) -> Run
-    ensures after { λ r. ⌜ done r (lent (now (frames .exit)) (now (objects .exit)) (now (statics .exit))) ≡ fromThrow (now (t .entry)) (lent (now (frames .entry)) (now (objects .entry)) (now (statics .entry))) h ⌝ }
+    ensures after { λ r.
+        let before = lent (now (frames .entry)) (now (objects .entry)) (now (statics .entry)) in
+        let after = lent (now (frames .exit)) (now (objects .exit)) (now (statics .exit)) in
+        ⌜ done r after ≡ fromThrow (now (t .entry)) before h ⌝ }
 {
     if shift::is_throw(h) {
         raise(t, frames, objects, statics, h)
@@ -254,7 +285,10 @@ fn from_exit(
     statics: &mut [Value],
     h: At,
 ) -> Run
-    ensures after { λ r. ⌜ done r (lent (now (frames .exit)) (now (objects .exit)) (now (statics .exit))) ≡ fromExit (now (t .entry)) (lent (now (frames .entry)) (now (objects .entry)) (now (statics .entry))) h ⌝ }
+    ensures after { λ r.
+        let before = lent (now (frames .entry)) (now (objects .entry)) (now (statics .entry)) in
+        let after = lent (now (frames .exit)) (now (objects .exit)) (now (statics .exit)) in
+        ⌜ done r after ≡ fromExit (now (t .entry)) before h ⌝ }
 {
     if shift::exits(h) {
         leave(t, frames, objects, statics, h)
@@ -270,7 +304,10 @@ fn from_virtual(
     statics: &mut [Value],
     h: At,
 ) -> Run
-    ensures after { λ r. ⌜ done r (lent (now (frames .exit)) (now (objects .exit)) (now (statics .exit))) ≡ fromVirtual (now (t .entry)) (lent (now (frames .entry)) (now (objects .entry)) (now (statics .entry))) h ⌝ }
+    ensures after { λ r.
+        let before = lent (now (frames .entry)) (now (objects .entry)) (now (statics .entry)) in
+        let after = lent (now (frames .exit)) (now (objects .exit)) (now (statics .exit)) in
+        ⌜ done r after ≡ fromVirtual (now (t .entry)) before h ⌝ }
 {
     if shift::is_virtual(h) {
         call_virtual(t, frames, objects, statics, h)
@@ -286,7 +323,10 @@ fn apply(
     statics: &mut [Value],
     h: At,
 ) -> Run
-    ensures after { λ r. ⌜ done r (lent (now (frames .exit)) (now (objects .exit)) (now (statics .exit))) ≡ applied (now (t .entry)) (lent (now (frames .entry)) (now (objects .entry)) (now (statics .entry))) h ⌝ }
+    ensures after { λ r.
+        let before = lent (now (frames .entry)) (now (objects .entry)) (now (statics .entry)) in
+        let after = lent (now (frames .exit)) (now (objects .exit)) (now (statics .exit)) in
+        ⌜ done r after ≡ applied (now (t .entry)) before h ⌝ }
 {
     if shift::is_static(h) {
         call_static(t, frames, objects, statics, h)
@@ -303,7 +343,10 @@ pub fn execute(
     statics: &mut [Value],
     h: At,
 ) -> Run
-    ensures after { λ r. ⌜ done r (lent (now (frames .exit)) (now (objects .exit)) (now (statics .exit))) ≡ executed (now (t .entry)) (lent (now (frames .entry)) (now (objects .entry)) (now (statics .entry))) h ⌝ }
+    ensures after { λ r.
+        let before = lent (now (frames .entry)) (now (objects .entry)) (now (statics .entry)) in
+        let after = lent (now (frames .exit)) (now (objects .exit)) (now (statics .exit)) in
+        ⌜ done r after ≡ executed (now (t .entry)) before h ⌝ }
 {
     if shift::ready(h) {
         apply(t, frames, objects, statics, h)

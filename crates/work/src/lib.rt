@@ -7,7 +7,8 @@ use site::Gone;
 use site::Site;
 ghost use mathlib.Core.Path.{_≡_};
 ghost use Rattle.drive.specs.Models.{done, lent};
-ghost use Rattle.work.specs.Work.{binopDone, branchDone, igetDone, iputDone, sgetDone, sputDone, classDone, plainDone, leaveDone, performed, fromBranch, fromIget, fromIput, fromSget, fromSput, fromLeaving, fromClass};
+ghost use Rattle.work.specs.Work.{binopDone, branchDone, igetDone, iputDone, sgetDone, sputDone, classDone, plainDone, leaveDone, performed};
+ghost use Rattle.work.specs.Work.{fromBranch, fromIget, fromIput, fromSget, fromSput, fromLeaving, fromClass};
 
 // binop.
 fn binop(
@@ -17,7 +18,10 @@ fn binop(
     statics: &mut [Value],
     s: Site,
 ) -> Gone
-    ensures after { λ r. ⌜ done r (lent (now (frames .exit)) (now (objects .exit)) (now (statics .exit))) ≡ binopDone (now (t .entry)) (lent (now (frames .entry)) (now (objects .entry)) (now (statics .entry))) s ⌝ }
+    ensures after { λ r.
+        let before = lent (now (frames .entry)) (now (objects .entry)) (now (statics .entry)) in
+        let after = lent (now (frames .exit)) (now (objects .exit)) (now (statics .exit)) in
+        ⌜ done r after ≡ binopDone (now (t .entry)) before s ⌝ }
 {
     let w = site::wanted(s);
     let x = store::register_at(frames, s.top, w.first, w.none);
@@ -43,7 +47,10 @@ fn branch(
     statics: &mut [Value],
     s: Site,
 ) -> Gone
-    ensures after { λ r. ⌜ done r (lent (now (frames .exit)) (now (objects .exit)) (now (statics .exit))) ≡ branchDone (now (t .entry)) (lent (now (frames .entry)) (now (objects .entry)) (now (statics .entry))) s ⌝ }
+    ensures after { λ r.
+        let before = lent (now (frames .entry)) (now (objects .entry)) (now (statics .entry)) in
+        let after = lent (now (frames .exit)) (now (objects .exit)) (now (statics .exit)) in
+        ⌜ done r after ≡ branchDone (now (t .entry)) before s ⌝ }
 {
     let w = site::wanted(s);
     let x = store::register_at(frames, s.top, w.first, w.none);
@@ -69,7 +76,10 @@ fn get_field(
     statics: &mut [Value],
     s: Site,
 ) -> Gone
-    ensures after { λ r. ⌜ done r (lent (now (frames .exit)) (now (objects .exit)) (now (statics .exit))) ≡ igetDone (now (t .entry)) (lent (now (frames .entry)) (now (objects .entry)) (now (statics .entry))) s ⌝ }
+    ensures after { λ r.
+        let before = lent (now (frames .entry)) (now (objects .entry)) (now (statics .entry)) in
+        let after = lent (now (frames .exit)) (now (objects .exit)) (now (statics .exit)) in
+        ⌜ done r after ≡ igetDone (now (t .entry)) before s ⌝ }
 {
     let w = site::wanted(s);
     let x = store::register_at(frames, s.top, w.first, w.none);
@@ -95,7 +105,10 @@ fn put_field(
     statics: &mut [Value],
     s: Site,
 ) -> Gone
-    ensures after { λ r. ⌜ done r (lent (now (frames .exit)) (now (objects .exit)) (now (statics .exit))) ≡ iputDone (now (t .entry)) (lent (now (frames .entry)) (now (objects .entry)) (now (statics .entry))) s ⌝ }
+    ensures after { λ r.
+        let before = lent (now (frames .entry)) (now (objects .entry)) (now (statics .entry)) in
+        let after = lent (now (frames .exit)) (now (objects .exit)) (now (statics .exit)) in
+        ⌜ done r after ≡ iputDone (now (t .entry)) before s ⌝ }
 {
     let w = site::wanted(s);
     let x = store::register_at(frames, s.top, w.first, w.none);
@@ -121,7 +134,10 @@ fn get_static(
     statics: &mut [Value],
     s: Site,
 ) -> Gone
-    ensures after { λ r. ⌜ done r (lent (now (frames .exit)) (now (objects .exit)) (now (statics .exit))) ≡ sgetDone (now (t .entry)) (lent (now (frames .entry)) (now (objects .entry)) (now (statics .entry))) s ⌝ }
+    ensures after { λ r.
+        let before = lent (now (frames .entry)) (now (objects .entry)) (now (statics .entry)) in
+        let after = lent (now (frames .exit)) (now (objects .exit)) (now (statics .exit)) in
+        ⌜ done r after ≡ sgetDone (now (t .entry)) before s ⌝ }
 {
     let w = site::wanted(s);
     let x = store::register_at(frames, s.top, w.first, w.none);
@@ -147,7 +163,10 @@ fn store_static(
     statics: &mut [Value],
     s: Site,
 ) -> Gone
-    ensures after { λ r. ⌜ done r (lent (now (frames .exit)) (now (objects .exit)) (now (statics .exit))) ≡ sputDone (now (t .entry)) (lent (now (frames .entry)) (now (objects .entry)) (now (statics .entry))) s ⌝ }
+    ensures after { λ r.
+        let before = lent (now (frames .entry)) (now (objects .entry)) (now (statics .entry)) in
+        let after = lent (now (frames .exit)) (now (objects .exit)) (now (statics .exit)) in
+        ⌜ done r after ≡ sputDone (now (t .entry)) before s ⌝ }
 {
     let w = site::wanted(s);
     let x = store::register_at(frames, s.top, w.first, w.none);
@@ -173,7 +192,10 @@ fn classes(
     statics: &mut [Value],
     s: Site,
 ) -> Gone
-    ensures after { λ r. ⌜ done r (lent (now (frames .exit)) (now (objects .exit)) (now (statics .exit))) ≡ classDone (now (t .entry)) (lent (now (frames .entry)) (now (objects .entry)) (now (statics .entry))) s ⌝ }
+    ensures after { λ r.
+        let before = lent (now (frames .entry)) (now (objects .entry)) (now (statics .entry)) in
+        let after = lent (now (frames .exit)) (now (objects .exit)) (now (statics .exit)) in
+        ⌜ done r after ≡ classDone (now (t .entry)) before s ⌝ }
 {
     let w = site::wanted(s);
     let x = store::register_at(frames, s.top, w.first, w.none);
@@ -199,7 +221,10 @@ fn plain(
     statics: &mut [Value],
     s: Site,
 ) -> Gone
-    ensures after { λ r. ⌜ done r (lent (now (frames .exit)) (now (objects .exit)) (now (statics .exit))) ≡ plainDone (now (t .entry)) (lent (now (frames .entry)) (now (objects .entry)) (now (statics .entry))) s ⌝ }
+    ensures after { λ r.
+        let before = lent (now (frames .entry)) (now (objects .entry)) (now (statics .entry)) in
+        let after = lent (now (frames .exit)) (now (objects .exit)) (now (statics .exit)) in
+        ⌜ done r after ≡ plainDone (now (t .entry)) before s ⌝ }
 {
     let w = site::wanted(s);
     let x = store::register_at(frames, s.top, w.first, w.none);
@@ -225,7 +250,10 @@ fn leave(
     statics: &mut [Value],
     s: Site,
 ) -> Gone
-    ensures after { λ r. ⌜ done r (lent (now (frames .exit)) (now (objects .exit)) (now (statics .exit))) ≡ leaveDone (now (t .entry)) (lent (now (frames .entry)) (now (objects .entry)) (now (statics .entry))) s ⌝ }
+    ensures after { λ r.
+        let before = lent (now (frames .entry)) (now (objects .entry)) (now (statics .entry)) in
+        let after = lent (now (frames .exit)) (now (objects .exit)) (now (statics .exit)) in
+        ⌜ done r after ≡ leaveDone (now (t .entry)) before s ⌝ }
 {
     site::left(s)
 }
@@ -238,7 +266,10 @@ fn from_class(
     statics: &mut [Value],
     s: Site,
 ) -> Gone
-    ensures after { λ r. ⌜ done r (lent (now (frames .exit)) (now (objects .exit)) (now (statics .exit))) ≡ fromClass (now (t .entry)) (lent (now (frames .entry)) (now (objects .entry)) (now (statics .entry))) s ⌝ }
+    ensures after { λ r.
+        let before = lent (now (frames .entry)) (now (objects .entry)) (now (statics .entry)) in
+        let after = lent (now (frames .exit)) (now (objects .exit)) (now (statics .exit)) in
+        ⌜ done r after ≡ fromClass (now (t .entry)) before s ⌝ }
 {
     if site::is_class(s) {
         classes(t, frames, objects, statics, s)
@@ -254,7 +285,10 @@ fn from_leaving(
     statics: &mut [Value],
     s: Site,
 ) -> Gone
-    ensures after { λ r. ⌜ done r (lent (now (frames .exit)) (now (objects .exit)) (now (statics .exit))) ≡ fromLeaving (now (t .entry)) (lent (now (frames .entry)) (now (objects .entry)) (now (statics .entry))) s ⌝ }
+    ensures after { λ r.
+        let before = lent (now (frames .entry)) (now (objects .entry)) (now (statics .entry)) in
+        let after = lent (now (frames .exit)) (now (objects .exit)) (now (statics .exit)) in
+        ⌜ done r after ≡ fromLeaving (now (t .entry)) before s ⌝ }
 {
     if site::leaves(s) {
         leave(t, frames, objects, statics, s)
@@ -270,7 +304,10 @@ fn from_sput(
     statics: &mut [Value],
     s: Site,
 ) -> Gone
-    ensures after { λ r. ⌜ done r (lent (now (frames .exit)) (now (objects .exit)) (now (statics .exit))) ≡ fromSput (now (t .entry)) (lent (now (frames .entry)) (now (objects .entry)) (now (statics .entry))) s ⌝ }
+    ensures after { λ r.
+        let before = lent (now (frames .entry)) (now (objects .entry)) (now (statics .entry)) in
+        let after = lent (now (frames .exit)) (now (objects .exit)) (now (statics .exit)) in
+        ⌜ done r after ≡ fromSput (now (t .entry)) before s ⌝ }
 {
     if site::is_sput(s) {
         store_static(t, frames, objects, statics, s)
@@ -286,7 +323,10 @@ fn from_sget(
     statics: &mut [Value],
     s: Site,
 ) -> Gone
-    ensures after { λ r. ⌜ done r (lent (now (frames .exit)) (now (objects .exit)) (now (statics .exit))) ≡ fromSget (now (t .entry)) (lent (now (frames .entry)) (now (objects .entry)) (now (statics .entry))) s ⌝ }
+    ensures after { λ r.
+        let before = lent (now (frames .entry)) (now (objects .entry)) (now (statics .entry)) in
+        let after = lent (now (frames .exit)) (now (objects .exit)) (now (statics .exit)) in
+        ⌜ done r after ≡ fromSget (now (t .entry)) before s ⌝ }
 {
     if site::is_sget(s) {
         get_static(t, frames, objects, statics, s)
@@ -302,7 +342,10 @@ fn from_iput(
     statics: &mut [Value],
     s: Site,
 ) -> Gone
-    ensures after { λ r. ⌜ done r (lent (now (frames .exit)) (now (objects .exit)) (now (statics .exit))) ≡ fromIput (now (t .entry)) (lent (now (frames .entry)) (now (objects .entry)) (now (statics .entry))) s ⌝ }
+    ensures after { λ r.
+        let before = lent (now (frames .entry)) (now (objects .entry)) (now (statics .entry)) in
+        let after = lent (now (frames .exit)) (now (objects .exit)) (now (statics .exit)) in
+        ⌜ done r after ≡ fromIput (now (t .entry)) before s ⌝ }
 {
     if site::is_iput(s) {
         put_field(t, frames, objects, statics, s)
@@ -318,7 +361,10 @@ fn from_iget(
     statics: &mut [Value],
     s: Site,
 ) -> Gone
-    ensures after { λ r. ⌜ done r (lent (now (frames .exit)) (now (objects .exit)) (now (statics .exit))) ≡ fromIget (now (t .entry)) (lent (now (frames .entry)) (now (objects .entry)) (now (statics .entry))) s ⌝ }
+    ensures after { λ r.
+        let before = lent (now (frames .entry)) (now (objects .entry)) (now (statics .entry)) in
+        let after = lent (now (frames .exit)) (now (objects .exit)) (now (statics .exit)) in
+        ⌜ done r after ≡ fromIget (now (t .entry)) before s ⌝ }
 {
     if site::is_iget(s) {
         get_field(t, frames, objects, statics, s)
@@ -334,7 +380,10 @@ fn from_branch(
     statics: &mut [Value],
     s: Site,
 ) -> Gone
-    ensures after { λ r. ⌜ done r (lent (now (frames .exit)) (now (objects .exit)) (now (statics .exit))) ≡ fromBranch (now (t .entry)) (lent (now (frames .entry)) (now (objects .entry)) (now (statics .entry))) s ⌝ }
+    ensures after { λ r.
+        let before = lent (now (frames .entry)) (now (objects .entry)) (now (statics .entry)) in
+        let after = lent (now (frames .exit)) (now (objects .exit)) (now (statics .exit)) in
+        ⌜ done r after ≡ fromBranch (now (t .entry)) before s ⌝ }
 {
     if site::is_branch(s) {
         branch(t, frames, objects, statics, s)
@@ -351,7 +400,10 @@ pub fn perform(
     statics: &mut [Value],
     s: Site,
 ) -> Gone
-    ensures after { λ r. ⌜ done r (lent (now (frames .exit)) (now (objects .exit)) (now (statics .exit))) ≡ performed (now (t .entry)) (lent (now (frames .entry)) (now (objects .entry)) (now (statics .entry))) s ⌝ }
+    ensures after { λ r.
+        let before = lent (now (frames .entry)) (now (objects .entry)) (now (statics .entry)) in
+        let after = lent (now (frames .exit)) (now (objects .exit)) (now (statics .exit)) in
+        ⌜ done r after ≡ performed (now (t .entry)) before s ⌝ }
 {
     if site::is_binop(s) {
         binop(t, frames, objects, statics, s)
