@@ -1,3 +1,0 @@
--- What the contracts of `cases` cite. Assumes nothing.
-pub mod Filled
-pub mod Numbers

@@ -1,0 +1,2 @@
+-- What the contracts of `compare_cases` cite. Assumes nothing.
+pub mod Records
