@@ -54,29 +54,18 @@ fn show_file(path: &[u8], records: Records) -> bool {
     record::is_whole(next)
 }
 
-fn show_texts() -> bool {
+// The same for all files, as long as they are sequences of records.
+fn main() {
     show_file(b"texts0.bin", Records::Texts)
         && show_file(b"texts1.bin", Records::Texts)
         && show_file(b"texts2.bin", Records::Texts)
         && show_file(b"texts3.bin", Records::Texts)
-}
-
-fn show_runs() -> bool {
-    show_file(b"runs0.bin", Records::Runs)
+        && show_file(b"runs0.bin", Records::Runs)
         && show_file(b"runs1.bin", Records::Runs)
         && show_file(b"runs2.bin", Records::Runs)
         && show_file(b"runs3.bin", Records::Runs)
-}
-
-fn show_checks() -> bool {
-    show_file(b"checks0.bin", Records::Checks)
+        && show_file(b"checks0.bin", Records::Checks)
         && show_file(b"checks1.bin", Records::Checks)
         && show_file(b"checks2.bin", Records::Checks)
-        && show_file(b"checks3.bin", Records::Checks)
-}
-
-fn main() {
-    if show_texts() && show_runs() {
-        show_checks();
-    }
+        && show_file(b"checks3.bin", Records::Checks);
 }

@@ -12,23 +12,15 @@ fn refused(n: u64, at: usize) {
     number::print(at as u64, 8);
 }
 
-fn counts(t: &[u64; 768]) {
+fn taken(t: &[u64; 768]) {
     io::write_all(STDOUT_FILENO, b"read");
     number::print(program::class_count(t) as u64, 2);
     number::print(program::field_count(t) as u64, 2);
     number::print(program::static_count(t) as u64, 2);
     number::print(program::method_count(t) as u64, 2);
-}
-
-fn sums(t: &[u64; 768]) {
     number::print(digest::total(t, Kind::Code), 4);
     number::print(digest::total(t, Kind::Handler), 4);
     number::print(digest::checksum(t), 8);
-}
-
-fn taken(t: &[u64; 768]) {
-    counts(t);
-    sums(t);
 }
 
 // Reads a text into the tables and prints its line.
