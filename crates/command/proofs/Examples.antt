@@ -1,10 +1,11 @@
--- What some command lines ask, by computation. Bytes: 48 to 57 are the digits. Assumes nothing.
+-- What some command lines ask, by computation. Bytes: 45 is '-', 48 to 57 are the digits. Assumes nothing.
 use mathlib.Core.Path.{_≡_, refl}
 use mathlib.Core.Bool.{true, false}
 use mathlib.Core.List.{[], _∷_}
 use Rattle.command.specs.declared.Command.the-variants.{Plain, Check, Step, Help, Unknown}
 use Rattle.command.specs.declared.Steps.the-variants.{Count, NoNumber}
-use Rattle.command.specs.Command.{same, checkWord, stepWord, helpWord, allDigits, valueFrom, countOf, commandFor}
+use Rattle.command.specs.Command.{checkWord, stepWord, helpWord, longHelpWord, shortHelpWord}
+use Rattle.command.specs.Command.{same, allDigits, valueFrom, countOf, commandFor}
 
 -- no word; `check A B`; `check A`; `help`; `help A`
 none : commandFor 0 [] [] ≡ Plain
@@ -25,6 +26,36 @@ help = refl
 help-more : commandFor 2 helpWord (65 ∷ []) ≡ Unknown
 unfolding same
 help-more = refl
+
+-- `--help`; `-h`; `--help A`; `-h A`
+long-help : commandFor 1 longHelpWord [] ≡ Help
+unfolding same
+long-help = refl
+
+short-help : commandFor 1 shortHelpWord [] ≡ Help
+unfolding same
+short-help = refl
+
+long-help-more : commandFor 2 longHelpWord (65 ∷ []) ≡ Unknown
+unfolding same
+long-help-more = refl
+
+short-help-more : commandFor 2 shortHelpWord (65 ∷ []) ≡ Unknown
+unfolding same
+short-help-more = refl
+
+-- `-help`, `--hel` and `h` are no commands
+one-dash : commandFor 1 (45 ∷ 104 ∷ 101 ∷ 108 ∷ 112 ∷ []) [] ≡ Unknown
+unfolding same
+one-dash = refl
+
+cut-help : commandFor 1 (45 ∷ 45 ∷ 104 ∷ 101 ∷ 108 ∷ []) [] ≡ Unknown
+unfolding same
+cut-help = refl
+
+no-dash : commandFor 1 (104 ∷ []) [] ≡ Unknown
+unfolding same
+no-dash = refl
 
 -- `chec`, `checks` and `Check` are no commands
 cut : commandFor 3 (99 ∷ 104 ∷ 101 ∷ 99 ∷ []) [] ≡ Unknown

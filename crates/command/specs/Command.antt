@@ -1,5 +1,5 @@
 -- What the words of the tool's command line ask. Bytes: 48 is '0'. Definitions only.
-use mathlib.Core.Bool.{Bool, true, false, _&&_, cond as pick}
+use mathlib.Core.Bool.{Bool, true, false, _&&_, _||_, cond as pick}
 use mathlib.Core.List.{List, [], _∷_}
 use Prim.Native.Nat.{ℕ, _+_, _*_, _-_, min}
 use lib.Dec.{eqb, ltb, leb}
@@ -15,7 +15,7 @@ same [] (b ∷ bs) = false
 same (a ∷ rest) [] = false
 same (a ∷ rest) (b ∷ bs) = eqb a b && same rest bs
 
--- `check`, `step`, `help`
+-- `check`, `step`, `help`, `--help`, `-h`
 abbrev pub checkWord : List ℕ
 checkWord = 99 ∷ 104 ∷ 101 ∷ 99 ∷ 107 ∷ []
 
@@ -24,6 +24,16 @@ stepWord = 115 ∷ 116 ∷ 101 ∷ 112 ∷ []
 
 abbrev pub helpWord : List ℕ
 helpWord = 104 ∷ 101 ∷ 108 ∷ 112 ∷ []
+
+abbrev pub longHelpWord : List ℕ
+longHelpWord = 45 ∷ 45 ∷ 104 ∷ 101 ∷ 108 ∷ 112 ∷ []
+
+abbrev pub shortHelpWord : List ℕ
+shortHelpWord = 45 ∷ 104 ∷ []
+
+-- a word that asks for help
+abbrev pub asksHelp : List ℕ → Bool
+asksHelp word = same word helpWord || (same word longHelpWord || same word shortHelpWord)
 
 -- a decimal digit
 abbrev pub isDigit : ℕ → Bool
@@ -48,11 +58,11 @@ abbrev pub stepFor : Steps → Bool → Command
 stepFor (Count n) named = Step n named
 stepFor NoNumber named = Unknown
 
--- so many words, of which these are the first two: no word; `check PANEL CLAIM`; `step N [PANEL]`; `help`; anything else
+-- so many words, of which these are the first two: no word; `check PANEL CLAIM`; `step N [PANEL]`; `help`, `--help` or `-h`; anything else
 abbrev pub commandFor : ℕ → List ℕ → List ℕ → Command
 commandFor count first second =
     pick (eqb count 0) Plain
     (pick (same first checkWord) (pick (eqb count 3) Check Unknown)
     (pick (same first stepWord)
     (pick (eqb count 2) (stepFor (countOf second) false) (pick (eqb count 3) (stepFor (countOf second) true) Unknown))
-    (pick (same first helpWord) (pick (eqb count 1) Help Unknown) Unknown)))
+    (pick (asksHelp first) (pick (eqb count 1) Help Unknown) Unknown)))

@@ -1,7 +1,7 @@
 // What the words of the tool's command line ask.
 ghost use mathlib.Core.Path.{_≡_};
 ghost use Prim.Native.Nat.{_+_, _*_, _-_, min, _≤_};
-ghost use Rattle.command.specs.Command.{same, isDigit, countOf, stepFor, commandFor};
+ghost use Rattle.command.specs.Command.{same, asksHelp, isDigit, countOf, stepFor, commandFor};
 
 // How many steps a word asks for, at most 1,000,000, or no number.
 pub enum Steps {
@@ -26,6 +26,19 @@ fn equal(a: &[u8], b: &[u8]) -> bool
     ensures value { λ r. ⌜ r ≡ same (now (a .entry)) (now (b .entry)) ⌝ }
 {
     check::same(a, b)
+}
+
+// Whether a word asks for help.
+fn asks_help(word: &[u8]) -> bool
+    ensures value { λ r. ⌜ r ≡ asksHelp (now (word .entry)) ⌝ }
+{
+    if equal(word, b"help") {
+        return true;
+    }
+    if equal(word, b"--help") {
+        return true;
+    }
+    equal(word, b"-h")
 }
 
 fn is_digit(b: u8) -> bool
@@ -99,7 +112,7 @@ pub fn command_of(count: usize, first: &[u8], second: &[u8]) -> Command
         }
         return Command::Unknown;
     }
-    if equal(first, b"help") {
+    if asks_help(first) {
         if count == 1 {
             return Command::Help;
         }

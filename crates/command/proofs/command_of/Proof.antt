@@ -47,23 +47,20 @@ returns-6 : tie.Need-returns-6
 returns-6 c =
     rw (ne-eqb _ 0 (c .before .before .before .before .before .before .before .before .if1 .left), sym (c .before .before .before .before .before .before .equal .ensures) ∙ c .before .before .before .before .before .if2 .left, sym (c .before .before .before .equal2 .ensures) ∙ c .before .before .if4 .taken, ne-eqb _ 2 (c .before .if5 .left), ne-eqb _ 3 (c .if6 .left))
 
-slice-aggregate-equal-3 : tie.Need-slice-aggregate-equal-3
-slice-aggregate-equal-3 c = search needs
-
-equal-requires-3 : tie.Need-equal-requires-3
-equal-requires-3 c κs = search needs
+asks-help-requires : tie.Need-asks-help-requires
+asks-help-requires c κs = search needs
 
 returns-7 : tie.Need-returns-7
 returns-7 c =
-    rw (ne-eqb _ 0 (c .before .before .before .before .before .before .before .before .before .before .if1 .left), sym (c .before .before .before .before .before .before .before .before .equal .ensures) ∙ c .before .before .before .before .before .before .before .if2 .left, sym (c .before .before .before .before .before .equal2 .ensures) ∙ c .before .before .before .before .if4 .left, sym (c .before .before .equal3 .ensures) ∙ c .before .if7 .taken, eq-eqb _ 1 (c .if8 .taken))
+    rw (ne-eqb _ 0 (c .before .before .before .before .before .before .before .before .before .if1 .left), sym (c .before .before .before .before .before .before .before .equal .ensures) ∙ c .before .before .before .before .before .before .if2 .left, sym (c .before .before .before .before .equal2 .ensures) ∙ c .before .before .before .if4 .left, sym (c .before .before .asks-help .ensures) ∙ c .before .if7 .taken, eq-eqb _ 1 (c .if8 .taken))
 
 returns-8 : tie.Need-returns-8
 returns-8 c =
-    rw (ne-eqb _ 0 (c .before .before .before .before .before .before .before .before .before .before .if1 .left), sym (c .before .before .before .before .before .before .before .before .equal .ensures) ∙ c .before .before .before .before .before .before .before .if2 .left, sym (c .before .before .before .before .before .equal2 .ensures) ∙ c .before .before .before .before .if4 .left, sym (c .before .before .equal3 .ensures) ∙ c .before .if7 .taken, ne-eqb _ 1 (c .if8 .left))
+    rw (ne-eqb _ 0 (c .before .before .before .before .before .before .before .before .before .if1 .left), sym (c .before .before .before .before .before .before .before .equal .ensures) ∙ c .before .before .before .before .before .before .if2 .left, sym (c .before .before .before .before .equal2 .ensures) ∙ c .before .before .before .if4 .left, sym (c .before .before .asks-help .ensures) ∙ c .before .if7 .taken, ne-eqb _ 1 (c .if8 .left))
 
 returns-9 : tie.Need-returns-9
 returns-9 c =
-    rw (ne-eqb _ 0 (c .before .before .before .before .before .before .before .before .before .if1 .left), sym (c .before .before .before .before .before .before .before .equal .ensures) ∙ c .before .before .before .before .before .before .if2 .left, sym (c .before .before .before .before .equal2 .ensures) ∙ c .before .before .before .if4 .left, sym (c .before .equal3 .ensures) ∙ c .if7 .left)
+    rw (ne-eqb _ 0 (c .before .before .before .before .before .before .before .before .if1 .left), sym (c .before .before .before .before .before .before .equal .ensures) ∙ c .before .before .before .before .before .if2 .left, sym (c .before .before .before .equal2 .ensures) ∙ c .before .before .if4 .left, sym (c .before .asks-help .ensures) ∙ c .if7 .left)
 
 pub command-of-spec : {M : Type 1} → statement M
 command-of-spec =
@@ -81,8 +78,7 @@ command-of-spec =
     step-for-requires-2
     returns-5
     returns-6
-    slice-aggregate-equal-3
-    equal-requires-3
+    asks-help-requires
     returns-7
     returns-8
     returns-9)
