@@ -1,6 +1,4 @@
-// Files, named by words of the command line or not.
-ghost use mathlib.Core.Path.{_≡_};
-ghost use lib.ListN.{length};
+// Files by name. What is said of them goes to the descriptor `told`, and the system's reason, by `os::fail`, to standard error.
 ghost use Rattle.tool.specs.Files.{Filled};
 
 // What came of a file: so many bytes, or a read that failed.
@@ -38,50 +36,29 @@ fn read_all(fd: i32, buffer: &mut [u8]) -> Got
     Got::Bytes(at)
 }
 
-// Says on standard error that a read failed.
-fn complain(path: &[u8], got: Got) {
+// Says that a read failed.
+fn complain(path: &[u8], got: Got, told: i32) {
     match got {
         Got::Bytes(_) => {}
-        Got::Failed => os::fail(path),
+        Got::Failed => {
+            os::fail(path);
+            io::write_all(told, b"nothing is printed where a file cannot be read\n");
+        }
     }
 }
 
-// Reads a file to the start of the buffer, as much of it as goes in. One that cannot be opened is said on standard error, and empty.
-fn read_file(path: &[u8], buffer: &mut [u8]) -> Got
+// Reads a file to the start of the buffer, as much of it as goes in. One that cannot be opened is said, and empty.
+pub fn read_file(path: &[u8], buffer: &mut [u8], told: i32) -> Got
     ensures bytes { λ r. ⌜ Filled r (now (buffer .exit)) ⌝ }
 {
     let fd = os::open_read(path);
     if fd < 0 {
         os::fail(path);
+        io::write_all(told, b"a file that cannot be opened counts as empty\n");
         return Got::Bytes(0);
     }
     let got = read_all(fd, &mut *buffer);
-    complain(path, got);
+    complain(path, got, told);
     libc::close(fd);
     got
-}
-
-// As many bytes as a word of the command line can have.
-pub fn name() -> [u8; 131072]
-    ensures length { λ r. ⌜ 131072 ≡ length r ⌝ }
-{
-    [0; 131072]
-}
-
-fn read_named(word: usize, buffer: &mut [u8]) -> Got
-    ensures bytes { λ r. ⌜ Filled r (now (buffer .exit)) ⌝ }
-{
-    let mut path = name();
-    let n = os::arg(word, &mut path);
-    read_file(&path[..n], buffer)
-}
-
-// Reads the file that a word of the command line names, or for word 0 the one of a fixed name.
-pub fn read_word(word: usize, fixed: &[u8], buffer: &mut [u8]) -> Got
-    ensures bytes { λ r. ⌜ Filled r (now (buffer .exit)) ⌝ }
-{
-    if word == 0 {
-        return read_file(fixed, buffer);
-    }
-    read_named(word, buffer)
 }

@@ -1,9 +1,10 @@
-// The tool: what its command line asks, on files and standard output. What is printed and told is decided by `response`.
+// The tool: what its command line asks, on files and standard output. What is printed and told is decided by `response`; words for
+// people go to the descriptor `told` that the caller names.
 mod files;
 
 use command::Command;
 use files::Got;
-use files::read_word;
+use files::read_file;
 use libc::STDERR_FILENO;
 use libc::STDOUT_FILENO;
 ghost use mathlib.Core.Path.{_≡_};
@@ -37,74 +38,78 @@ fn within(n: usize, buffer: &[u8]) -> usize
     if n < buffer.len() { n } else { buffer.len() }
 }
 
-// Writes the first bytes of a buffer.
-fn write(fd: i32, buffer: &[u8], n: usize) {
-    let k = within(n, buffer);
-    io::write_all(fd, &buffer[..k]);
+// Writes bytes to standard output. A write that fails is said on standard error.
+fn print(bytes: &[u8]) {
+    if !io::write_all(STDOUT_FILENO, bytes) {
+        os::fail(b"standard output");
+    }
 }
 
 // Prints the verdict on two texts and, if asked, tells it in words.
-fn answer_claim(panel: &[u8], claim: &[u8], tell: bool) {
+fn answer_claim(panel: &[u8], claim: &[u8], tell: bool, told: i32) {
     let mut out = page();
     let mut words = line();
     let table = phrases::table();
     let response = response::of_claim(panel, claim, &table, &mut out, &mut words);
-    write(STDOUT_FILENO, &out, response.printed);
+    let n = within(response.printed, &out);
+    print(&out[..n]);
     if tell {
-        write(STDERR_FILENO, &words, response.told);
+        let k = within(response.told, &words);
+        io::write_all(told, &words[..k]);
     }
 }
 
-// Prints what becomes of a panel in at most n steps, and tells it in words.
-fn answer_run(panel: &[u8], n: u64) {
+// Prints what becomes of a panel in at most so many steps, and tells it in words.
+fn answer_run(panel: &[u8], steps: u64, told: i32) {
     let mut out = page();
     let mut words = line();
     let table = phrases::table();
-    let response = response::of_run(panel, n, &table, &mut out, &mut words);
-    write(STDOUT_FILENO, &out, response.printed);
-    write(STDERR_FILENO, &words, response.told);
+    let response = response::of_run(panel, steps, &table, &mut out, &mut words);
+    let n = within(response.printed, &out);
+    print(&out[..n]);
+    let k = within(response.told, &words);
+    io::write_all(told, &words[..k]);
 }
 
-fn check_with(panel: &[u8], word: usize, tell: bool) {
+fn check_with(panel: &[u8], claim_name: &[u8], tell: bool, told: i32) {
     let mut claim = space();
-    let got = read_word(word, b"claim.txt", &mut claim);
+    let got = read_file(claim_name, &mut claim, told);
     if let Got::Bytes(n) = got {
-        answer_claim(panel, &claim[..n], tell);
+        answer_claim(panel, &claim[..n], tell, told);
     }
 }
 
-// Checks two files, named by words of the command line or, where that is word 0, panel.txt and claim.txt.
-fn check(first: usize, second: usize, tell: bool) {
+// Checks two files.
+fn check(panel_name: &[u8], claim_name: &[u8], tell: bool, told: i32) {
     let mut panel = space();
-    let got = read_word(first, b"panel.txt", &mut panel);
+    let got = read_file(panel_name, &mut panel, told);
     if let Got::Bytes(n) = got {
-        check_with(&panel[..n], second, tell);
+        check_with(&panel[..n], claim_name, tell, told);
     }
 }
 
-// Runs a file, named by a word of the command line or, where that is word 0, panel.txt.
-fn step(steps: u64, word: usize) {
+// Runs a file.
+fn step(steps: u64, panel_name: &[u8], told: i32) {
     let mut panel = space();
-    let got = read_word(word, b"panel.txt", &mut panel);
+    let got = read_file(panel_name, &mut panel, told);
     if let Got::Bytes(n) = got {
-        answer_run(&panel[..n], steps);
+        answer_run(&panel[..n], steps, told);
     }
 }
 
 fn help() {
-    io::write_all(
-        STDOUT_FILENO,
+    print(
         b"hudzmoke                      prints the verdict on claim.txt, a claim about panel.txt, both in this folder\n\
         hudzmoke check PANEL CLAIM    the same for two files by name; what is wrong is told in words on standard error\n\
         hudzmoke step N [PANEL]       runs PANEL, or panel.txt, for at most N steps and prints how that ended and the state\n\
-        hudzmoke help                 prints this\n\
+        hudzmoke help                 prints this, as --help and -h do\n\
         Numbers are printed in hexadecimal and told in decimal. docs/FORMATS.md says what each printed line means.\n",
     );
 }
 
-fn usage() {
+fn usage(told: i32) {
     io::write_all(
-        STDERR_FILENO,
+        told,
         b"usage: hudzmoke [check PANEL CLAIM | step N [PANEL] | help]\n",
     );
 }
@@ -115,28 +120,43 @@ fn word_count() -> usize {
     if n == 0 { 0 } else { n - 1 }
 }
 
-// What the command line asks. The first word's buffer is longer than every command; one that does not go in is none.
-fn asked() -> Command {
-    let mut first = [0u8; 16];
-    let n = os::arg(1, &mut first);
-    let mut second = files::name();
-    let k = os::arg(2, &mut second);
-    command::command_of(word_count(), &first[..n], &second[..k])
-}
-
-// Does what the command line asks.
-pub fn run() {
-    match asked() {
-        Command::Plain => check(0, 0, false),
-        Command::Check => check(2, 3, true),
+// Does what so many words ask, of which these are the first three.
+pub fn obey(count: usize, first: &[u8], second: &[u8], third: &[u8], told: i32) {
+    match command::command_of(count, first, second) {
+        Command::Plain => check(b"panel.txt", b"claim.txt", false, told),
+        Command::Check => check(second, third, true, told),
         Command::Step { steps, named } => {
             if named {
-                step(steps, 3);
+                step(steps, third, told);
             } else {
-                step(steps, 0);
+                step(steps, b"panel.txt", told);
             }
         }
         Command::Help => help(),
-        Command::Unknown => usage(),
+        Command::Unknown => usage(told),
     }
+}
+
+// As many bytes as a word of the command line can have.
+fn word() -> [u8; 131072]
+    ensures length { λ r. ⌜ 131072 ≡ length r ⌝ }
+{
+    [0; 131072]
+}
+
+// Does what the command line asks. The first word's buffer is longer than every command; one that does not go in is none.
+pub fn run() {
+    let mut first = [0u8; 16];
+    let n = os::arg(1, &mut first);
+    let mut second = word();
+    let k = os::arg(2, &mut second);
+    let mut third = word();
+    let j = os::arg(3, &mut third);
+    obey(
+        word_count(),
+        &first[..n],
+        &second[..k],
+        &third[..j],
+        STDERR_FILENO,
+    );
 }

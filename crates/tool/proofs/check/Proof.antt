@@ -6,23 +6,20 @@ use Rattle.tool.proofs.check.Tie as tie
 space-requires : tie.Need-space-requires
 space-requires c κs = search needs
 
-slice-aggregate-read-word : tie.Need-slice-aggregate-read-word
-slice-aggregate-read-word c = search needs
+slice-aggregate-read-file : tie.Need-slice-aggregate-read-file
+slice-aggregate-read-file c = search needs
 
-slice-aggregate-read-word-2 : tie.Need-slice-aggregate-read-word-2
-slice-aggregate-read-word-2 c = search needs
-
-read-word-requires : tie.Need-read-word-requires
-read-word-requires c κs = search needs
+read-file-requires : tie.Need-read-file-requires
+read-file-requires c κs = search needs
 
 enum-known-got : tie.Need-enum-known-got
 enum-known-got c = search needs
 
 array-share-prefix-panel : tie.Need-array-share-prefix-panel
-array-share-prefix-panel c = (rw (c .before .got .given .1) at (c .before .before .before .before .read-word .ensures)) .0
+array-share-prefix-panel c = (rw (c .before .got .given .1) at (c .before .before .before .before .read-file .ensures)) .0
 
 slice-aggregate-check-with : tie.Need-slice-aggregate-check-with
-slice-aggregate-check-with c = (rw (c .before .before .got .given .1) at (c .before .before .before .before .before .read-word .ensures)) .1
+slice-aggregate-check-with c = (rw (c .before .before .got .given .1) at (c .before .before .before .before .before .read-file .ensures)) .1
 
 check-with-requires : tie.Need-check-with-requires
 check-with-requires c κs = search needs
@@ -41,9 +38,8 @@ check-spec =
     tie.close
     (tie.spec
     space-requires
-    slice-aggregate-read-word
-    slice-aggregate-read-word-2
-    read-word-requires
+    slice-aggregate-read-file
+    read-file-requires
     enum-known-got
     array-share-prefix-panel
     slice-aggregate-check-with

@@ -1,4 +1,0 @@
-// The tool's help.
-fn main() {
-    tool::run();
-}

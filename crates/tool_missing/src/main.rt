@@ -1,4 +1,0 @@
-// The tool in a folder without files.
-fn main() {
-    tool::run();
-}
