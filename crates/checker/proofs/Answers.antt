@@ -5,7 +5,6 @@ use Prim.Native.Nat.{ℕ, _*_, _≤_, _<_}
 use native.Mathlib.Omega.{arith}
 use lib.ListN.{length, drop}
 use borrow.Author.Tests.{lt-ltb, le-ltb, eq-eqb, ne-eqb}
-use Rattle.text.proofs.Cases.{never}
 use Rattle.verdict.specs.declared.Verdict.{Verdict}
 use Rattle.verdict.specs.declared.Verdict.the-variants.{Accepted, Violated, Refused, Short}
 use Rattle.program.specs.Program.{Program}
@@ -18,7 +17,6 @@ use Rattle.reader.proofs.WellFormed.{well-formed}
 use Rattle.flow.specs.Claim.{Claim}
 use Rattle.flow.specs.Verdict.{accepted, violated, verdict}
 use Rattle.flow.specs.Calls.{callList}
-use Rattle.flow.proofs.Theorem.{covered}
 use Rattle.slots.specs.Layout.{claimIn}
 use Rattle.claim.specs.declared.Answer.{Answer as ClaimAnswer}
 use Rattle.claim.specs.ReadClaim.{Reading as ClaimReading, refused as claimRefused, taken as claimTaken, readClaim, readingNumber as claimNumber, readingValues as claimValues, masksAfter, numberOf as answerNumber, valuesOf as answerValues, lineOf as answerLine}
@@ -26,46 +24,30 @@ use Rattle.claim.proofs.Answers.{line-is as claim-line-is, found-masks}
 use Rattle.rules.specs.declared.Broken.{Broken}
 use Rattle.rules.specs.Broken.{brokenOf}
 use Rattle.rules.proofs.Numbers.{verdict-said}
-use Rattle.calls.specs.Bytes.{callsIn, putCalls}
-use Rattle.calls.proofs.Bytes.{put-front, calls-back, call-list-short}
+use Rattle.calls.specs.Bytes.{putCalls}
+use Rattle.calls.proofs.Bytes.{put-front, call-list-short}
 use Rattle.checker.specs.Check.{Checking, turnedDown, judged, withClaim, withProgram, checking, answerFor, memoryAfter}
-use Rattle.checker.specs.Coverage.{Coverage, Accepting}
 
 -- ---- a claim that stands in words
 module _ (p : Program) (c : Claim) (before : List ℕ) where
-  abbrev pub Listed : Verdict → List ℕ → Type 0
-  Listed r after = (k : ℕ) → r ≡ Accepted k → (verdict p c ≡ accepted) × (callsIn k after ≡ callList p c)
-
   abbrev pub Judged : Verdict → List ℕ → Type 0
-  Judged r after =
-      (r ≡ answerFor (judged p c (length before)))
-      × ((after ≡ memoryAfter (judged p c (length before)) before) × Listed r after)
+  Judged r after = (r ≡ answerFor (judged p c (length before))) × (after ≡ memoryAfter (judged p c (length before)) before)
 
   pub short-judged : length before < 24576 → Judged Short before
-  short-judged few = rw (lt-ltb (length before) 24576 few) (refl, (refl, λ k e. never (cc)))
+  short-judged few = rw (lt-ltb (length before) 24576 few) (refl, refl)
 
   module _ (many : 24576 ≤ length before) (b : Broken) (v : b ≡ brokenOf (verdict p c)) where
     pub broken-judged : (b .rule ≡ 11 → ⊥) → Judged (Violated (b .rule) (b .method) (b .address)) before
     broken-judged d =
         let e : verdict p c ≡ violated (b .rule) (b .method) (b .address) = verdict-said p c b v ∙ rw (ne-eqb (b .rule) 11 d) in
-        rw (le-ltb (length before) 24576 many, e) (refl, (refl, λ k f. never (cc)))
+        rw (le-ltb (length before) 24576 many, e) (refl, refl)
 
     pub kept-judged : b .rule ≡ 11 → Limited p → (count : ℕ) (after : List ℕ) → count ≡ length (callList p c)
         → after ≡ putCalls (callList p c) 0 before → Judged (Accepted count) after
     kept-judged z limited count after n w =
         let e : verdict p c ≡ accepted = verdict-said p c b v ∙ rw (eq-eqb (b .rule) 11 z) in
         let front = put-front (callList p c) before (omega (arith, call-list-short p c limited)) in
-        let held : callsIn (length (callList p c)) after ≡ callList p c =
-        ap (callsIn (length (callList p c))) (w ∙ front) ∙ calls-back (callList p c) (drop (3 * length (callList p c)) before) in
-        rw (le-ltb (length before) 24576 many, e) (
-          ap (λ (x : ℕ). Accepted x) n,
-          (
-            w ∙ front,
-            λ k f.
-                let same : count ≡ k = cc in
-                (refl, ap (λ (x : ℕ). callsIn x after) (sym same ∙ n) ∙ held),
-          ),
-        )
+        rw (le-ltb (length before) 24576 many, e) (ap (λ (x : ℕ). Accepted x) n, w ∙ front)
 
 -- ---- a claim's text
 module _ (p : Program) (text before : List ℕ) (a : ClaimAnswer) (e : answerNumber a ≡ claimNumber (readClaim p text))
@@ -74,9 +56,7 @@ module _ (p : Program) (text before : List ℕ) (a : ClaimAnswer) (e : answerNum
   all = withClaim p (length before) (readClaim p text)
 
   abbrev pub Claimed : Verdict → List ℕ → Type 0
-  Claimed r after =
-      (r ≡ answerFor all)
-      × ((after ≡ memoryAfter all before) × ((k : ℕ) → r ≡ Accepted k → Accepting p text (callsIn k after)))
+  Claimed r after = (r ≡ answerFor all) × (after ≡ memoryAfter all before)
 
   turned-down : (x : ClaimReading) → answerNumber a ≡ claimNumber x → answerValues a ≡ claimValues x → (answerNumber a ≡ 0 → ⊥)
       → withClaim p (length before) x ≡ turnedDown (answerNumber a) (answerLine a)
@@ -87,7 +67,7 @@ module _ (p : Program) (text before : List ℕ) (a : ClaimAnswer) (e : answerNum
   turned-down (claimTaken ws) e v d = absurd (d e)
 
   pub refused-claimed : (answerNumber a ≡ 0 → ⊥) → Claimed (Refused (answerNumber a) (answerLine a)) before
-  refused-claimed d = rw (turned-down (readClaim p text) e v d) (refl, (refl, λ k f. never (cc)))
+  refused-claimed d = rw (turned-down (readClaim p text) e v d) (refl, refl)
 
   pub judged-claimed : answerNumber a ≡ 0 → (words w₀ : List ℕ) → words ≡ masksAfter (readClaim p text) w₀
       → (r : Verdict) (after : List ℕ) → Judged p (claimIn words) before r after → Claimed r after
@@ -95,14 +75,7 @@ module _ (p : Program) (text before : List ℕ) (a : ClaimAnswer) (e : answerNum
       found-masks (readClaim p text) a z v
       (λ ws q.
       let held : words ≡ ws = w ∙ rw q in
-      rw q (
-        rw held at (j .0),
-        (
-          rw held at (j .1 .0),
-          λ k f.
-              record { masks = ws; claim-read = q; accepting = rw held at (j .1 .1 k f .0); listed = rw held at (j .1 .1 k f .1) },
-        ),
-      ))
+      rw q (rw held at (j .0), rw held at (j .1)))
 
 -- ---- a program's text
 module _ (program claim before : List ℕ) (a : Answer) (e : readNumber a ≡ readingNumber (readProgram program))
@@ -111,9 +84,7 @@ module _ (program claim before : List ℕ) (a : Answer) (e : readNumber a ≡ re
   whole = checking program claim (length before)
 
   abbrev pub Checked : Verdict → List ℕ → Type 0
-  Checked r after =
-      (r ≡ answerFor whole)
-      × ((after ≡ memoryAfter whole before) × ((k : ℕ) → r ≡ Accepted k → Coverage program claim (callsIn k after)))
+  Checked r after = (r ≡ answerFor whole) × (after ≡ memoryAfter whole before)
 
   put-down : (x : Reading) → readNumber a ≡ readingNumber x → readValues a ≡ readingValues x → (readNumber a ≡ 0 → ⊥)
       → withProgram claim (length before) x ≡ turnedDown (readNumber a) (readLine a)
@@ -125,33 +96,17 @@ module _ (program claim before : List ℕ) (a : Answer) (e : readNumber a ≡ re
 
   pub refused-checked : (readNumber a ≡ 0 → ⊥) → Checked (Refused (readNumber a) (readLine a)) before
   unfolding checking
-  refused-checked d = rw (put-down (readProgram program) e v d) (refl, (refl, λ k f. never (cc)))
+  refused-checked d = rw (put-down (readProgram program) e v d) (refl, refl)
 
   pub claimed-checked : readNumber a ≡ 0 → (tables t₀ : List ℕ) → tables ≡ tablesAfter (readProgram program) t₀
       → (r : Verdict) (after : List ℕ)
       → (r ≡ answerFor (withClaim (programIn tables) (length before) (readClaim (programIn tables) claim)))
-      × ((after ≡ memoryAfter (withClaim (programIn tables) (length before) (readClaim (programIn tables) claim)) before)
-      × ((k : ℕ) → r ≡ Accepted k → Accepting (programIn tables) claim (callsIn k after)))
+      × (after ≡ memoryAfter (withClaim (programIn tables) (length before) (readClaim (programIn tables) claim)) before)
       → Checked r after
   unfolding checking
   claimed-checked z tables t₀ w r after j =
       found-program (readProgram program) a z v
       (λ p q.
-      let formed = well-formed program p q in
       let held : tables ≡ tablesOf p = w ∙ rw q in
-      let same : programIn tables ≡ p = rw held (program-of-tables p (formed .limited)) in
-      rw q (
-        rw same at (j .0),
-        (
-          rw same at (j .1 .0),
-          λ k f.
-              let h : Accepting p claim (callsIn k after) = rw same at (j .1 .1 k f) in
-              record {
-                p = p;
-                program-read = q;
-                masks = h .masks;
-                claim-read = h .claim-read;
-                covered = λ n. rw (h .listed) (covered p (claimIn (h .masks)) formed (h .accepting) n);
-              },
-        ),
-      ))
+      let same : programIn tables ≡ p = rw held (program-of-tables p (well-formed program p q .limited)) in
+      rw q (rw same at (j .0), rw same at (j .1)))

@@ -16,16 +16,9 @@ use Rattle.claim.specs.ReadClaim.{refused, digitsFrom, known, isDue, masksFrom,
 use Rattle.claim.specs.Sample.{zeros, sampleClaim}
 use Rattle.claim.proofs.SampleClaim.{sample-taken}
 use Rattle.verdict.specs.declared.Verdict.{Verdict as Answer}
-use Rattle.verdict.specs.declared.Verdict.the-variants.{Accepted, Refused, Short}
-use Rattle.calls.specs.Bytes.{callsIn}
+use Rattle.verdict.specs.declared.Verdict.the-variants.{Refused, Short}
 use Rattle.checker.specs.Check.{Checking, turnedDown, short, withClaim, checking, answerFor, memoryAfter}
-use Rattle.checker.specs.Coverage.{Coverage}
-
--- the clauses `verdict`, `memory` and `coverage` at two texts, lent memory before and after, and an answer
-pub record Promised (program claim : List ℕ) (before after : List ℕ) (r : Answer) : Type 0 where
-  pub verdict-clause : r ≡ answerFor (checking program claim (length before))
-  pub memory-clause : after ≡ memoryAfter (checking program claim (length before)) before
-  pub coverage-clause : (k : ℕ) → r ≡ Accepted k → Coverage program claim (callsIn k after)
+use Rattle.checker.specs.Coverage.{Promised}
 
 -- what comes of a claim for the sample's program
 pub with-claim : (claim : List ℕ) (size : ℕ)

@@ -6,13 +6,11 @@ ghost use lib.ListN.{length};
 ghost use Rattle.verdict.specs.declared.Verdict.the-variants.{Accepted};
 ghost use Rattle.verdict.specs.Numbers.{numberOf, valuesOf};
 ghost use Rattle.program.specs.Tables.{programIn};
-ghost use Rattle.flow.specs.Verdict.{accepted, verdict};
-ghost use Rattle.flow.specs.Calls.{callList};
 ghost use Rattle.slots.specs.Layout.{claimIn};
 ghost use Rattle.claim.specs.ReadClaim.{readClaim};
 ghost use Rattle.calls.specs.Bytes.{callsIn};
 ghost use Rattle.checker.specs.Check.{judged, withClaim, checking, answerFor, checkingNumber, checkingValues, memoryAfter};
-ghost use Rattle.checker.specs.Coverage.{Coverage, Accepting};
+ghost use Rattle.checker.specs.Coverage.{Coverage};
 
 // The verdict on the claim that stands in words.
 fn judge(t: &[u64; 768], w: &[u64; 9712], memory: &mut [u8]) -> Verdict
@@ -22,10 +20,6 @@ fn judge(t: &[u64; 768], w: &[u64; 9712], memory: &mut [u8]) -> Verdict
     ensures memory { λ r.
         let x = judged (programIn (now (t .entry))) (claimIn (now (w .entry))) (length (now (memory .entry))) in
         ⌜ now (memory .exit) ≡ memoryAfter x (now (memory .entry)) ⌝ }
-    ensures list { λ r.
-        let p = programIn (now (t .entry)) in
-        let c = claimIn (now (w .entry)) in
-        ⌜ ((k : ℕ) → r ≡ Accepted k → (verdict p c ≡ accepted) × (callsIn k (now (memory .exit)) ≡ callList p c)) ⌝ }
 {
     if memory.len() < 24576 {
         return Verdict::Short;
@@ -51,9 +45,6 @@ fn check_claim(t: &[u64; 768], claim: &[u8], w: &mut [u64; 9712], memory: &mut [
         let p = programIn (now (t .entry)) in
         let x = withClaim p (length (now (memory .entry))) (readClaim p (now (claim .entry))) in
         ⌜ now (memory .exit) ≡ memoryAfter x (now (memory .entry)) ⌝ }
-    ensures accepting { λ r.
-        let p = programIn (now (t .entry)) in
-        ⌜ ((k : ℕ) → r ≡ Accepted k → Accepting p (now (claim .entry)) (callsIn k (now (memory .exit)))) ⌝ }
 {
     let read = claim::fill(t, claim, &mut *w);
     let number = claim::number_of(read);
@@ -76,9 +67,6 @@ fn check_tables(t: &[u64; 768], claim: &[u8], memory: &mut [u8]) -> Verdict
         let p = programIn (now (t .entry)) in
         let x = withClaim p (length (now (memory .entry))) (readClaim p (now (claim .entry))) in
         ⌜ now (memory .exit) ≡ memoryAfter x (now (memory .entry)) ⌝ }
-    ensures accepting { λ r.
-        let p = programIn (now (t .entry)) in
-        ⌜ ((k : ℕ) → r ≡ Accepted k → Accepting p (now (claim .entry)) (callsIn k (now (memory .exit)))) ⌝ }
 {
     let mut w = [0u64; 9712];
     check_claim(t, claim, &mut w, memory)
@@ -90,9 +78,6 @@ fn check_by(program: &[u8], claim: &[u8], t: &mut [u64; 768], memory: &mut [u8])
     ensures memory { λ r.
         let x = checking (now (program .entry)) (now (claim .entry)) (length (now (memory .entry))) in
         ⌜ now (memory .exit) ≡ memoryAfter x (now (memory .entry)) ⌝ }
-    ensures coverage { λ r.
-        let after = now (memory .exit) in
-        ⌜ ((k : ℕ) → r ≡ Accepted k → Coverage (now (program .entry)) (now (claim .entry)) (callsIn k after)) ⌝ }
 {
     let read = reader::fill(program, &mut *t);
     let number = reader::number_of(read);

@@ -61,11 +61,18 @@ unasked =
     ∷ row (doing (Throw 0 ∷ [])) (but (registerAt 0 1 0) 0 (but (resultAt 0 1) 0 full)) accepted
     -- zero's bit in an argument's register
     ∷ row (doing []) (but (registerAt 3 0 1) 0 full) accepted
+    -- zero's bit in what a method returns that returns another number
+    ∷ row (doing []) (but (registerAt 1 0 2) nonzeros (but (returnedBy 1) nonzeros full)) accepted
+    -- anything of a field read from no class, or of the negative of an object
+    ∷ row (doing (Iget 0 1 0 ∷ [])) (but (registerAt 0 0 1) zeros (but (registerAt 0 1 0) 0 full)) accepted
+    ∷ row (doing (NewInstance 1 3 ∷ Unop Neg 0 1 ∷ [])) (but (registerAt 0 1 1) 8 (but (registerAt 0 2 0) 0 full)) accepted
+    -- the result before a call where its exception is handled
+    ∷ row (calling (InvokeStatic 3 1 0 ∷ ReturnVoid ∷ []) (handler 0 1 2 0 ∷ [])) (but (resultAt 0 2) 31 full) accepted
     ∷ []
 
 unasked-right : allRight unasked ≡ true
-unfolding unasked verdict has subset hasNumber instructionOf fieldsOf operationOf signedOf belowIn hasField answers methodIn calleeIn
-    catches handlerFor
+unfolding unasked verdict has subset hasNumber instructionOf fieldsOf operationOf unaryOf signedOf belowIn hasField answers
+    methodIn calleeIn catches handlerFor
 unasked-right = refl
 
 -- the same of a cast: numbers other than zero, and classes not at or below the cast's

@@ -16,6 +16,7 @@ pub mod Keeps
 pub mod Run
 pub mod History
 pub mod Theorem
+pub mod Says
 pub mod Samples
 pub mod Examples
 pub mod Refuted

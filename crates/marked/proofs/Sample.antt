@@ -1,5 +1,5 @@
--- What the clauses of `check` say at document 01's sample, in any lent memory that is large enough: the bytes 00 00 01 at its front, and
--- demand 3 for every n. Assumes nothing.
+-- What `check` promises (src/lib.rt) says at document 01's sample, in any lent memory that is large enough: the bytes 00 00 01 at its
+-- front, and demand 3 for every n. Assumes nothing.
 use mathlib.Core.Path.{_≡_, refl, ap, _∙_}
 use mathlib.Core.List.{List, [], _∷_}
 use Prim.Native.Nat.{ℕ, _≤_}
@@ -20,8 +20,8 @@ use Rattle.verdict.specs.declared.Verdict.{Verdict as Answer}
 use Rattle.verdict.specs.declared.Verdict.the-variants.{Accepted}
 use Rattle.calls.specs.Bytes.{callsIn}
 use Rattle.checker.specs.Check.{Checking, kept, checking, answerFor, memoryAfter}
-use Rattle.checker.specs.Coverage.{Coverage}
-use Rattle.checker.proofs.Sample.{Promised, with-claim}
+use Rattle.checker.specs.Coverage.{Coverage, Promised}
+use Rattle.checker.proofs.Sample.{with-claim}
 
 -- the masks are accepted, with one call
 sample-accepted : verdict sampleProgram (claimIn sampleWords) ≡ accepted

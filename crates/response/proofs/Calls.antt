@@ -1,24 +1,17 @@
 -- The lines of the call list: as many as it has calls, at most 8,192, and each printed from its three bytes. Assumes nothing.
-use mathlib.Core.Path.{_≡_, refl, ap, _∙_}
+use mathlib.Core.Path.{_≡_, refl, sym, ap, _∙_}
 use mathlib.Core.List.{List, _++_}
 use Prim.Native.Nat.{ℕ, zero, suc, _+_, _*_, _≤_}
 use native.Mathlib.Omega.{arith}
-use lib.Dec.{ltb}
 use lib.ListN.{length, getD}
-use Rattle.text.proofs.Cases.{by-test}
 use Rattle.program.specs.Lists.{tab, joined}
-use Rattle.program.specs.Program.{Program}
-use Rattle.program.specs.Tables.{Limited}
-use Rattle.reader.specs.Read.{Reading, refused, taken, readProgram}
 use Rattle.reader.proofs.WellFormed.{well-formed}
 use Rattle.machine.specs.History.{Made}
-use Rattle.flow.specs.Claim.{Claim}
-use Rattle.flow.specs.Verdict.{Verdict, accepted, violated, verdict}
 use Rattle.slots.specs.Layout.{claimIn}
-use Rattle.claim.specs.ReadClaim.{Reading as ClaimReading, refused as claimRefused, taken as claimTaken, readClaim}
 use Rattle.calls.specs.Bytes.{callBytes}
 use Rattle.calls.proofs.Bytes.{calls-back, call-list-short}
-use Rattle.checker.specs.Check.{Checking, turnedDown, short, broken, kept, decided, judged, withClaim, withProgram, checking}
+use Rattle.checker.specs.Check.{Checking, turnedDown, short, broken, kept, checking}
+use Rattle.checker.proofs.Kept.{kept-texts}
 use Rattle.report.specs.Printed.{three, callLines}
 use Rattle.response.specs.Claimed.{linesFor}
 
@@ -46,22 +39,14 @@ Few short = Unit {0}
 Few (broken rule method address) = Unit {0}
 Few (kept calls) = length calls ≤ 8192
 
-few-decided : (p : Program) (c : Claim) → Limited p → (v : Verdict) → Few (decided p c v)
-few-decided p c limits accepted = omega (arith, call-list-short p c limits)
-few-decided p c limits (violated rule method address) = tt
-
-few-judged : (p : Program) (c : Claim) (size : ℕ) → Limited p → Few (judged p c size)
-few-judged p c size limits =
-    by-test (ltb size 24576) (λ t. rw t tt) (λ t. rw t (few-decided p c limits (verdict p c)))
-
-few-claim : (p : Program) (size : ℕ) → Limited p → (r : ClaimReading) → Few (withClaim p size r)
-few-claim p size limits (claimRefused number line) = tt
-few-claim p size limits (claimTaken masks) = few-judged p (claimIn masks) size limits
-
-few-program : (program claim : List ℕ) (size : ℕ) (r : Reading) → readProgram program ≡ r → Few (withProgram claim size r)
-few-program program claim size (refused number line) e = tt
-few-program program claim size (taken p) e = few-claim p size (well-formed program p e .limited) (readClaim p claim)
+few-kept : (program claim : List ℕ) (size : ℕ) (x : Checking) → checking program claim size ≡ x → Few x
+few-kept program claim size (turnedDown number line) e = tt
+few-kept program claim size short e = tt
+few-kept program claim size (broken rule method address) e = tt
+few-kept program claim size (kept calls) e =
+    let h = kept-texts program claim size calls e in
+    let limited = well-formed program (h .p) (h .program-read) .limited in
+    rw (sym (h .listed)) (omega (arith, call-list-short (h .p) (claimIn (h .masks)) limited))
 
 pub few-calls : (program claim : List ℕ) (size : ℕ) → Few (checking program claim size)
-unfolding checking
-few-calls program claim size = few-program program claim size (readProgram program) refl
+few-calls program claim size = few-kept program claim size (checking program claim size) refl

@@ -1,10 +1,10 @@
 -- What is printed and told of a claim, from what the checker and the report did. Assumes nothing.
 use mathlib.Core.Path.{_≡_, refl, sym, _∙_}
-use mathlib.Core.List.{List, []}
+use mathlib.Core.List.{List, [], _++_}
 use Prim.Native.Nat.{ℕ, _*_, _≤_, _<_, min}
 use native.Mathlib.Omega.{arith}
 use lib.Dec.{leb}
-use lib.ListN.{length, drop}
+use lib.ListN.{length, take, drop}
 use borrow.Author.Tests.{lt-ltb, le-leb, lt-leb}
 use Rattle.text.proofs.Cases.{by-test}
 use Rattle.page.specs.Page.{Put, filled, filledCount}
@@ -13,13 +13,15 @@ use Rattle.reader.specs.Read.{Reading, refused, taken, readProgram}
 use Rattle.claim.specs.ReadClaim.{refused as claimRefused, readClaim}
 use Rattle.verdict.specs.declared.Verdict.{Verdict}
 use Rattle.checker.specs.Check.{Checking, turnedDown, short, broken, kept, withProgram, checking, answerFor, memoryAfter}
-use Rattle.report.specs.Printed.{printed}
+use Rattle.checker.specs.Coverage.{Coverage}
+use Rattle.report.specs.Printed.{acceptedWord, printed}
 use Rattle.report.proofs.Longest.{longest}
 use Rattle.page.proofs.Puts.{whole}
 use Rattle.words.specs.Told.{told}
 use Rattle.words.proofs.Short.{told-short}
-use Rattle.response.specs.Claimed.{longer, saidOf, checkingOf, said, claimTold}
+use Rattle.response.specs.Claimed.{callsSaid, longer, saidOf, checkingOf, said, claimTold}
 use Rattle.response.proofs.Calls.{lines-of, Few, few-calls}
+use Rattle.response.proofs.Covered.{printed-covered}
 
 -- ---- the verdict
 -- an answer, and lent memory after it
@@ -84,12 +86,14 @@ said-longest panel claim =
     rw (sym (printed-is (checkingOf panel claim) [] (few-of panel claim))) (longest (answerFor (checkingOf panel claim)) (memoryAfter (checkingOf panel claim) []))
 
 -- ---- the response
--- so many bytes are printed, whole where there is room for the longest, and so many told
+-- so many bytes are printed, whole where there is room for the longest, and so many told; where the bytes printed begin with
+-- `accepted`, the calls that their lines say cover the run
 abbrev pub Claimed : List ℕ → List ℕ → List ℕ → List ℕ → List ℕ → List ℕ → List ℕ → ℕ → ℕ → Type 0
 Claimed panel claim table before after line wrote n k =
     (n ≡ filledCount (said panel claim) before) × ((after ≡ filled (said panel claim) before)
     × ((73737 ≤ length before → n ≡ length (said panel claim))
-    × (Put line 0 (claimTold table panel claim) wrote k × (200 ≤ length line → k ≡ length (claimTold table panel claim)))))
+    × (Put line 0 (claimTold table panel claim) wrote k × ((200 ≤ length line → k ≡ length (claimTold table panel claim))
+    × ((lines : List ℕ) → take n after ≡ acceptedWord ++ lines → Coverage panel claim (callsSaid lines))))))
 
 pub claimed : (panel claim table before after line wrote lent memory : List ℕ) (v : Verdict) (n k : ℕ)
     → Judged (checkingOf panel claim) v lent memory
@@ -107,7 +111,13 @@ claimed panel claim table before after line wrote lent memory v n k j printed-th
         bytes,
         (
           λ h. count ∙ rw (le-leb (length (said panel claim)) (length before) (omega (arith, said-longest panel claim, h))),
-          (told-so, λ h. whole told-so (omega (arith, told-short table (answerFor (checkingOf panel claim)), h)) .0),
+          (
+            told-so,
+            (
+              λ h. whole told-so (omega (arith, told-short table (answerFor (checkingOf panel claim)), h)) .0,
+              λ lines s. printed-covered panel claim lines before after n count bytes s,
+            ),
+          ),
         ),
       ),
     )

@@ -1,4 +1,5 @@
 pub mod Calls
+pub mod Covered
 pub mod Claims
 pub mod Examples
 pub mod Longest

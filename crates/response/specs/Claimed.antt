@@ -1,9 +1,11 @@
 -- What the tool prints and tells for the texts of a panel and a claim. Definitions only.
 use mathlib.Core.List.{List, [], _∷_, _++_}
 use mathlib.Core.Bool.{cond as pick}
-use Prim.Native.Nat.{ℕ}
+use Prim.Native.Nat.{ℕ, _+_, _*_, _/_}
 use lib.Dec.{leb}
-use lib.ListN.{length}
+use lib.ListN.{length, getD}
+use Rattle.text.specs.Hex.{digitOf}
+use Rattle.program.specs.Lists.{tab}
 use Rattle.machine.specs.History.{Made}
 use Rattle.reader.specs.Read.{Reading, refused, taken, readProgram}
 use Rattle.checker.specs.Check.{Checking, turnedDown, short, broken, kept, checking, answerFor}
@@ -14,6 +16,19 @@ use Rattle.words.specs.Told.{told}
 abbrev pub linesFor : List Made → List ℕ
 linesFor [] = []
 linesFor (x ∷ xs) = three (x .caller) (x .address) (x .callee) ++ linesFor xs
+
+-- the calls that such lines say, nine bytes each: of every number its two digits
+unfoldable pub numberSaid : List ℕ → ℕ → ℕ
+numberSaid lines at = digitOf (getD lines at 0) * 16 + digitOf (getD lines (at + 1) 0)
+
+abbrev pub callsSaid : List ℕ → List Made
+callsSaid lines =
+    tab (length lines / 9)
+    (λ i. record {
+      caller = numberSaid lines (9 * i);
+      address = numberSaid lines (9 * i + 3);
+      callee = numberSaid lines (9 * i + 6);
+    })
 
 -- "`accepted` and the call list, or `violated` rule method address .. or `refused` number .. line"; 23 has no line: it prints as 0
 abbrev pub saidOf : Checking → List ℕ

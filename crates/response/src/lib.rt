@@ -4,12 +4,15 @@ mod stepped;
 pub use stepped::of_run;
 use verdict::Verdict;
 ghost use mathlib.Core.Path.{_≡_};
-ghost use Prim.Native.Nat.{_≤_};
-ghost use lib.ListN.{length};
+ghost use mathlib.Core.List.{List, _++_};
+ghost use Prim.Native.Nat.{ℕ, _≤_};
+ghost use lib.ListN.{length, take};
 ghost use Rattle.page.specs.Page.{Put, filled, filledCount};
 ghost use Rattle.reader.specs.Read.{readProgram};
 ghost use Rattle.checker.specs.Check.{answerFor, memoryAfter};
-ghost use Rattle.response.specs.Claimed.{longer, checkingOf, said, claimTold};
+ghost use Rattle.checker.specs.Coverage.{Coverage};
+ghost use Rattle.report.specs.Printed.{acceptedWord};
+ghost use Rattle.response.specs.Claimed.{callsSaid, longer, checkingOf, said, claimTold};
 
 // How many bytes are printed and told.
 pub struct Response {
@@ -54,7 +57,7 @@ fn judge(panel: &[u8], claim: &[u8], memory: &mut [u8]) -> Verdict
 }
 
 // Writes what is printed for the texts of a panel and a claim to the front of out, nothing where it does not fit, and what is told
-// of them to the front of line, as much as goes in.
+// of them to the front of line, as much as goes in. Printed as accepted: the claim and the calls printed cover every run.
 pub fn of_claim(
     panel: &[u8],
     claim: &[u8],
@@ -67,6 +70,7 @@ pub fn of_claim(
     ensures whole { λ r. ⌜ (73737 ≤ length (now (out .entry)) → r .printed ≡ length (said (now (panel .entry)) (now (claim .entry)))) ⌝ }
     ensures words { λ r. ⌜ Put (now (line .entry)) 0 (claimTold (now (table .entry)) (now (panel .entry)) (now (claim .entry))) (now (line .exit)) (r .told) ⌝ }
     ensures all_words { λ r. ⌜ (200 ≤ length (now (line .entry)) → r .told ≡ length (claimTold (now (table .entry)) (now (panel .entry)) (now (claim .entry)))) ⌝ }
+    ensures coverage { λ r. ⌜ ((lines : List ℕ) → take (r .printed) (now (out .exit)) ≡ acceptedWord ++ lines → Coverage (now (panel .entry)) (now (claim .entry)) (callsSaid lines)) ⌝ }
 {
     let mut memory = lent();
     let v = judge(panel, claim, &mut memory);
