@@ -1,15 +1,20 @@
-/* A grading program's use of the library: checks the claim about a panel, both in memory, prints the verdict and the calls, and runs the
- * panel for two steps and to its end. The panel and the claim are document 01's sample. */
+/* A grading program's use of the library: reads panels, checks claims about one, prints the verdicts and the calls, and runs panels for
+ * some steps and to their end. The sample and its claim are document 01's. */
 #include <inttypes.h>
 #include <stdio.h>
 #include <string.h>
 
 #include "hudzmoke.h"
 
+/* The structs lie as the library has them: four bytes a field, and nothing between. */
+_Static_assert(sizeof(hudzmoke_value) == 8, "a value has 8 bytes");
+_Static_assert(sizeof(hudzmoke_frame) == 144, "a frame has 144 bytes");
+_Static_assert(sizeof(hudzmoke_object) == 132, "an object has 132 bytes");
+
 #define ZERO "4000000000000000"
 #define NONE "0000000000000000"
 
-static const char panel[] =
+static const char sample[] =
     "01ff\n"
     "0100\n"
     "040000010100\n"
@@ -37,38 +42,73 @@ static const char false_claim[] =
     "1500" NONE "\n"
     "1501" NONE "\n";
 
-/* Whether the panel may be locked: its claim is accepted. */
-static int check(const char *text)
+/* Class 2 has a field, and there is a static: method 0 makes an object, puts 7 into its field and -5 into the static. */
+static const char storing[] =
+    "01ff\n"
+    "0100\n"
+    "0100\n"
+    "0202\n"
+    "03\n"
+    "040000010200\n"
+    "060700020000000000\n"
+    "060201000000000007\n"
+    "060901000000000000\n"
+    "0602010000fffffffb\n"
+    "060b01000000000000\n"
+    "061100000000000000\n";
+
+/* The superclass of class 1 is class 1: a value that is not allowed, at line 2. */
+static const char own_superclass[] =
+    "01ff\n"
+    "0101\n"
+    "040000010100\n"
+    "061100000000000000\n";
+
+/* The number of a panel's text; its line is printed. */
+static uint64_t read_panel(const char *panel)
+{
+    uint64_t answer[HUDZMOKE_ANSWER];
+    uint64_t number = hudzmoke_read((const uint8_t *)panel, strlen(panel), answer, HUDZMOKE_ANSWER);
+    if (number == HUDZMOKE_READ)
+        printf("read\n");
+    else
+        printf("refused: number %" PRIu64 ", line %" PRIu64 "\n", number, answer[1]);
+    return number;
+}
+
+/* The number of the verdict on a claim about the sample: the panel may be locked if it is HUDZMOKE_ACCEPTED. */
+static uint64_t check(const char *text)
 {
     uint8_t memory[HUDZMOKE_MEMORY];
     uint64_t answer[HUDZMOKE_ANSWER];
-    uint64_t number = hudzmoke_check((const uint8_t *)panel, strlen(panel), (const uint8_t *)text, strlen(text),
+    uint64_t number = hudzmoke_check((const uint8_t *)sample, strlen(sample), (const uint8_t *)text, strlen(text),
                                      memory, sizeof memory, answer, HUDZMOKE_ANSWER);
     switch (number) {
     case HUDZMOKE_ACCEPTED:
         printf("accepted, calls: %" PRIu64 "\n", answer[1]);
         for (uint64_t k = 0; k < answer[1]; k++)
             printf("  method %u, address %u calls method %u\n", memory[3 * k], memory[3 * k + 1], memory[3 * k + 2]);
-        return 1;
+        break;
     case HUDZMOKE_VIOLATED:
         printf("violated: rule %" PRIu64 ", method %" PRIu64 ", address %" PRIu64 "\n", answer[1], answer[2], answer[3]);
-        return 0;
+        break;
     default:
         printf("refused: number %" PRIu64 ", line %" PRIu64 "\n", number, answer[1]);
-        return 0;
     }
+    return number;
 }
 
 static void print_value(const char *name, unsigned place, hudzmoke_value v)
 {
     if (v.object == 0)
-        printf("    %s %u: number %" PRId32 "\n", name, place, v.number);
+        printf("  %s %u: number %" PRId32 "\n", name, place, v.number);
     else
-        printf("    %s %u: object %" PRIu32 "\n", name, place, v.object - 1);
+        printf("  %s %u: object %" PRIu32 "\n", name, place, v.object - 1);
 }
 
-/* The state after at most n steps. */
-static int step(uint64_t n)
+/* The number of a panel that is run for at most n steps. The first so many registers of each frame, cells of each object and statics are
+ * printed: the lent memory does not say how many a method, a class and the panel have. */
+static uint64_t step(const char *panel, uint64_t n, unsigned registers, unsigned cells, unsigned places)
 {
     static hudzmoke_frame frames[HUDZMOKE_FRAMES];
     static hudzmoke_object objects[HUDZMOKE_OBJECTS];
@@ -78,22 +118,34 @@ static int step(uint64_t n)
                                     objects, HUDZMOKE_OBJECTS, statics, HUDZMOKE_STATICS, answer, HUDZMOKE_ANSWER);
     if (number < HUDZMOKE_FULL_STORE) {
         printf("refused: number %" PRIu64 ", line %" PRIu64 "\n", number, answer[1]);
-        return 0;
+        return number;
     }
-    printf("after %" PRIu64 " steps: number %" PRIu64 ", frames %" PRIu64 ", objects %" PRIu64 "\n", answer[1], number, answer[3], answer[4]);
+    printf("after %" PRIu64 " steps: number %" PRIu64 ", frames %" PRIu64 ", objects %" PRIu64 "\n",
+           answer[1], number, answer[3], answer[4]);
     for (uint64_t k = 0; k < answer[3]; k++) {
         printf("  frame %" PRIu64 ": method %" PRIu32 ", address %" PRIu32 "\n", k, frames[k].method, frames[k].address);
-        print_value("register", 0, frames[k].registers[0]);
+        for (unsigned r = 0; r < registers; r++)
+            print_value("  register", r, frames[k].registers[r]);
     }
-    return number == HUDZMOKE_STEPS_MADE || number == HUDZMOKE_DONE;
+    for (uint64_t k = 0; k < answer[4]; k++) {
+        printf("  object %" PRIu64 ": class %" PRIu32 "\n", k, objects[k].class_number);
+        for (unsigned x = 0; x < cells; x++)
+            print_value("  cell", x, objects[k].cells[x]);
+    }
+    for (unsigned x = 0; x < places; x++)
+        print_value("static", x, statics[x]);
+    return number;
 }
 
-/* Exits with 0 if all is as document 01 says of its sample. */
+/* Exits with 0 if all numbers are as document 01 says. */
 int main(void)
 {
-    int accepted = check(claim);
-    int rejected = !check(false_claim);
-    int stepped = step(2);
-    int ended = step(1000);
-    return accepted && rejected && stepped && ended ? 0 : 1;
+    int read = read_panel(sample) == HUDZMOKE_READ;
+    int refused = read_panel(own_superclass) == HUDZMOKE_PROGRAM_BAD_VALUE;
+    int accepted = check(claim) == HUDZMOKE_ACCEPTED;
+    int violated = check(false_claim) == HUDZMOKE_VIOLATED;
+    int stepped = step(sample, 2, 1, 0, 0) == HUDZMOKE_STEPS_MADE;
+    int ended = step(sample, 1000, 1, 0, 0) == HUDZMOKE_DONE;
+    int stored = step(storing, 5, 2, 1, 1) == HUDZMOKE_STEPS_MADE;
+    return read && refused && accepted && violated && stepped && ended && stored ? 0 : 1;
 }

@@ -50,23 +50,55 @@ enum {
     HUDZMOKE_ANSWER = 5
 };
 
-/* The numbers that the functions give. 1 to 6 refuse a program text and 9 to 13 a claim text. */
+/* The numbers that the functions give. A refusal of a text comes with its line, from 1; 0 for a text that is too long. */
 enum {
-    HUDZMOKE_READ = 0,        /* hudzmoke_read: a program */
+    HUDZMOKE_READ = 0, /* hudzmoke_read: a program */
+
+    /* The program text is refused. */
+    HUDZMOKE_PROGRAM_TOO_LONG = 1,      /* over 65,536 bytes */
+    HUDZMOKE_PROGRAM_BAD_LINE = 2,      /* another byte than 0 to 9 and a to f, an odd count of digits, an empty line, no line end */
+    HUDZMOKE_PROGRAM_BAD_FRAME = 3,     /* unknown kind or wrong length */
+    HUDZMOKE_PROGRAM_OUT_OF_ORDER = 4,  /* a frame out of order, or a count outside its limits */
+    HUDZMOKE_PROGRAM_BAD_VALUE = 5,     /* a field value that is not allowed */
+    HUDZMOKE_PROGRAM_FALLS_THROUGH = 6, /* the last instruction of a method is no goto, return or throw */
+
+    /* The claim text is refused. */
+    HUDZMOKE_CLAIM_TOO_LONG = 9,      /* over 262,144 bytes */
+    HUDZMOKE_CLAIM_BAD_LINE = 10,     /* as HUDZMOKE_PROGRAM_BAD_LINE */
+    HUDZMOKE_CLAIM_UNKNOWN_KIND = 11, /* a frame of unknown kind */
+    HUDZMOKE_CLAIM_NOT_DUE = 12,      /* not the frame due, one too many, or one missing */
+    HUDZMOKE_CLAIM_BAD_BIT = 13,      /* a mask has a bit that is not allowed */
+
+    /* The run stands still. 20 and 21: the next step is neither made nor counted. */
     HUDZMOKE_FULL_STORE = 20, /* new-instance at 256 objects */
-    HUDZMOKE_FULL_STACK = 21, /* a call at 32 frames */
+    HUDZMOKE_FULL_STACK = 21, /* a call without fault at 32 frames */
     HUDZMOKE_STEPS_MADE = 22, /* the steps asked for are made, and the run has not ended */
     HUDZMOKE_SHORT = 23,      /* too little memory is lent */
     HUDZMOKE_OUTSIDE = 24,    /* an address outside its method */
-    HUDZMOKE_DONE = 32,       /* the last frame returned */
-    HUDZMOKE_UNCAUGHT = 33,   /* the last frame was dropped */
-    HUDZMOKE_ACCEPTED = 34,   /* the claim meets every flow rule */
-    HUDZMOKE_VIOLATED = 35,   /* it breaks one */
-    HUDZMOKE_FAULT = 40       /* 41 to 48: fault 1 to 8 */
+
+    /* The run has ended. */
+    HUDZMOKE_DONE = 32,     /* the last frame returned */
+    HUDZMOKE_UNCAUGHT = 33, /* the last frame was dropped: no handler took the pending object */
+
+    /* The claim is judged. */
+    HUDZMOKE_ACCEPTED = 34, /* it meets every flow rule */
+    HUDZMOKE_VIOLATED = 35, /* it breaks one */
+
+    /* The run has ended by a fault, 1 to 8 of document 01: 40 and its number. */
+    HUDZMOKE_FAULT = 40,
+    HUDZMOKE_NULL_AS_OBJECT = 41,   /* null stands where an object must */
+    HUDZMOKE_NUMBER_AS_OBJECT = 42, /* another number stands where an object must */
+    HUDZMOKE_OBJECT_AS_NUMBER = 43, /* an object stands where a number must */
+    HUDZMOKE_DIVISION_BY_ZERO = 44, /* div or rem by zero */
+    HUDZMOKE_FIELD_NOT_HAD = 45,    /* the object's class does not have the field */
+    HUDZMOKE_NO_METHOD = 46,        /* a virtual call finds no method */
+    HUDZMOKE_NOT_THROWABLE = 47,    /* throw of an object that is no Throwable */
+    HUDZMOKE_FAILED_CAST = 48       /* check-cast of an object of another class */
 };
 
-/* The number of a program text: HUDZMOKE_READ, or the refusal's. */
-uint64_t hudzmoke_read(const uint8_t *text, size_t text_length);
+/* Reads a program text: HUDZMOKE_READ, or the number of its refusal. The answer's words: that number; the line, or 0; 0; 0; 0. */
+uint64_t hudzmoke_read(const uint8_t *text, size_t text_length,
+                       uint64_t *answer, size_t answer_length);
 
 /* Checks a claim about a program; the number of the verdict. The answer's words: that number; the count of calls, the rule or the line; the
  * method; the address; 0. Words without a value are 0. If the claim is accepted, the calls stand at the front of memory, three bytes each:

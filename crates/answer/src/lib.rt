@@ -6,7 +6,7 @@ use machine::Fault;
 use turn::Halt;
 use verdict::Verdict;
 ghost use mathlib.Core.Path.{_≡_};
-ghost use mathlib.Core.List.{_∷_};
+ghost use mathlib.Core.List.{[], _∷_};
 ghost use Prim.Native.Nat.{ℕ};
 ghost use lib.Dec.{leb};
 ghost use lib.ListN.{length, set};
@@ -70,6 +70,14 @@ fn put(answer: &mut [u64], number: u64, first: u64, pending: u64, frames: u64, o
     memory::put_word(&mut *answer, 3, frames);
     memory::put_word(answer, 4, objects);
     number
+}
+
+// Writes what the reader of a program answered, its number and its line, as five words, and answers the number.
+pub fn put_reading(answer: &mut [u64], number: u8, line: usize) -> u64
+    ensures number { λ r. ⌜ r ≡ number ⌝ }
+    ensures memory { λ r. ⌜ now (answer .exit) ≡ verdictAnswered number (line ∷ []) (now (answer .entry)) ⌝ }
+{
+    put(answer, number as u64, line as u64, 0, 0, 0)
 }
 
 // Writes what the stepper answered as five words, and answers its number.

@@ -8,7 +8,7 @@ ghost use Prim.Native.Nat.{ℕ};
 ghost use lib.ListN.{length};
 ghost use Rattle.verdict.specs.declared.Verdict.the-variants.{Accepted};
 ghost use Rattle.verdict.specs.Numbers.{numberOf, valuesOf};
-ghost use Rattle.reader.specs.Read.{readProgram, readingNumber};
+ghost use Rattle.reader.specs.Read.{readProgram, readingNumber, readingValues};
 ghost use Rattle.bounded.specs.Step.{steppingNumber, steppingValues};
 ghost use Rattle.bounded.specs.Lent.{lending, framesLeft, objectsLeft, staticsLeft};
 ghost use Rattle.answer.specs.Words.{answered, verdictAnswered};
@@ -16,14 +16,17 @@ ghost use Rattle.calls.specs.Bytes.{callsIn};
 ghost use Rattle.checker.specs.Check.{checking, checkingNumber, checkingValues, memoryAfter};
 ghost use Rattle.checker.specs.Coverage.{Coverage};
 
-// The number of a program text: 0 where it is read, else its refusal's.
+// Reads a program text: 0 where it is read, else the number of its refusal. Words 0 to 4 of the answer are that number, the line, and 0.
 #[no_mangle]
-pub extern "C" fn hudzmoke_read(text: &[u8]) -> u64
+pub extern "C" fn hudzmoke_read(text: &[u8], answer: &mut [u64]) -> u64
     ensures number { λ r. ⌜ r ≡ readingNumber (readProgram (now (text .entry))) ⌝ }
+    ensures answer { λ r.
+        let x = readProgram (now (text .entry)) in
+        ⌜ now (answer .exit) ≡ verdictAnswered (readingNumber x) (readingValues x) (now (answer .entry)) ⌝ }
 {
     let mut t = [0u64; 768];
-    let answer = reader::fill(text, &mut t);
-    reader::number_of(answer) as u64
+    let read = reader::fill(text, &mut t);
+    answer::put_reading(answer, reader::number_of(read), reader::line_of(read))
 }
 
 // Runs a program text for at most n steps in lent memory: the number of what became of it. Words 0 to 4 of the answer are that
@@ -37,9 +40,15 @@ pub extern "C" fn hudzmoke_step(
     statics: &mut [Value],
     answer: &mut [u64],
 ) -> u64
-    ensures number { λ r. ⌜ r ≡ steppingNumber (lending (now (text .entry)) n (now (frames .entry)) (now (objects .entry)) (now (statics .entry))) ⌝ }
-    ensures answer { λ r. ⌜ now (answer .exit) ≡ answered (steppingNumber (lending (now (text .entry)) n (now (frames .entry)) (now (objects .entry)) (now (statics .entry)))) (steppingValues (lending (now (text .entry)) n (now (frames .entry)) (now (objects .entry)) (now (statics .entry)))) (now (answer .entry)) ⌝ }
-    ensures memory { λ r. ⌜ (now (frames .exit) ≡ framesLeft (lending (now (text .entry)) n (now (frames .entry)) (now (objects .entry)) (now (statics .entry))) (now (frames .entry))) × (now (objects .exit) ≡ objectsLeft (lending (now (text .entry)) n (now (frames .entry)) (now (objects .entry)) (now (statics .entry))) (now (objects .entry))) × (now (statics .exit) ≡ staticsLeft (lending (now (text .entry)) n (now (frames .entry)) (now (objects .entry)) (now (statics .entry))) (now (statics .entry))) ⌝ }
+    ensures number { λ r.
+        let x = lending (now (text .entry)) n (now (frames .entry)) (now (objects .entry)) (now (statics .entry)) in
+        ⌜ r ≡ steppingNumber x ⌝ }
+    ensures answer { λ r.
+        let x = lending (now (text .entry)) n (now (frames .entry)) (now (objects .entry)) (now (statics .entry)) in
+        ⌜ now (answer .exit) ≡ answered (steppingNumber x) (steppingValues x) (now (answer .entry)) ⌝ }
+    ensures memory { λ r.
+        let x = lending (now (text .entry)) n (now (frames .entry)) (now (objects .entry)) (now (statics .entry)) in
+        ⌜ (now (frames .exit) ≡ framesLeft x (now (frames .entry))) × (now (objects .exit) ≡ objectsLeft x (now (objects .entry))) × (now (statics .exit) ≡ staticsLeft x (now (statics .entry))) ⌝ }
 {
     let outcome = stepper::step(text, n, frames, objects, statics);
     answer::put_outcome(answer, outcome)
@@ -55,9 +64,15 @@ pub extern "C" fn hudzmoke_check(
     answer: &mut [u64],
 ) -> u64
     ensures number { λ r. ⌜ r ≡ checkingNumber (checking (now (program .entry)) (now (claim .entry)) (length (now (memory .entry)))) ⌝ }
-    ensures answer { λ r. ⌜ now (answer .exit) ≡ verdictAnswered (checkingNumber (checking (now (program .entry)) (now (claim .entry)) (length (now (memory .entry))))) (checkingValues (checking (now (program .entry)) (now (claim .entry)) (length (now (memory .entry))))) (now (answer .entry)) ⌝ }
-    ensures memory { λ r. ⌜ now (memory .exit) ≡ memoryAfter (checking (now (program .entry)) (now (claim .entry)) (length (now (memory .entry)))) (now (memory .entry)) ⌝ }
-    ensures coverage { λ r. ⌜ ((k : ℕ) → r ≡ numberOf (Accepted k) → checkingValues (checking (now (program .entry)) (now (claim .entry)) (length (now (memory .entry)))) ≡ valuesOf (Accepted k) → Coverage (now (program .entry)) (now (claim .entry)) (callsIn k (now (memory .exit)))) ⌝ }
+    ensures answer { λ r.
+        let x = checking (now (program .entry)) (now (claim .entry)) (length (now (memory .entry))) in
+        ⌜ now (answer .exit) ≡ verdictAnswered (checkingNumber x) (checkingValues x) (now (answer .entry)) ⌝ }
+    ensures memory { λ r.
+        let x = checking (now (program .entry)) (now (claim .entry)) (length (now (memory .entry))) in
+        ⌜ now (memory .exit) ≡ memoryAfter x (now (memory .entry)) ⌝ }
+    ensures coverage { λ r.
+        let x = checking (now (program .entry)) (now (claim .entry)) (length (now (memory .entry))) in
+        ⌜ ((k : ℕ) → r ≡ numberOf (Accepted k) → checkingValues x ≡ valuesOf (Accepted k) → Coverage (now (program .entry)) (now (claim .entry)) (callsIn k (now (memory .exit)))) ⌝ }
 {
     let verdict = checker::check(program, claim, memory);
     answer::put_verdict(answer, verdict)
