@@ -4,5 +4,6 @@ pub mod Left
 pub mod Lending
 pub mod Outcomes
 pub mod Laws
+pub mod LentLaws
 pub mod Texts
 pub mod Examples

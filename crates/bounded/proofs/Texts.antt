@@ -1,5 +1,5 @@
 -- What texts and lent memory give, by computation: the sample, a word too few of each, a refused text. Assumes nothing.
-use mathlib.Core.Path.{_≡_, refl, ap}
+use mathlib.Core.Path.{_≡_, refl, ap, _∙_}
 use mathlib.Core.List.{List, [], _∷_, _++_}
 use Prim.Native.Nat.{ℕ}
 use lib.ListN.{replicate, length-replicate}
@@ -8,14 +8,15 @@ use Prim.Native.String.{String}
 use Rattle.text.specs.Hex.{linesOf, whole, allDigits, digitOf, numberFrom}
 use Rattle.instruction.specs.Word.{instructionOf, fieldsOf}
 use Rattle.frame.specs.Frame.{kindOf}
-use Rattle.reader.specs.Read.{refused, lineKind, readLines, valued, readProgram}
+use Rattle.program.specs.Tables.{tablesOf}
+use Rattle.reader.specs.Read.{Reading, refused, lineKind, readLines, valued, readProgram, tablesAfter}
 use Rattle.reader.specs.Sample.{bytesOf, sample}
 use Rattle.reader.proofs.Examples.{sampleProgram, sample-reads}
 use Rattle.machine.specs.Run.{step}
 use Rattle.memory.specs.Memory.{framesOf, staticsOf, frameWord}
 use Rattle.turn.specs.Stop.{stopOf}
 use Rattle.bounded.specs.Bounded.{steps, bounded}
-use Rattle.bounded.specs.Step.{Stepping, turnedDown, short, ran, stepping, steppingNumber, steppingValues, framesAfter, staticsAfter}
+use Rattle.bounded.specs.Step.{Stepping, turnedDown, short, ran, stepping, steppingNumber, steppingValues, framesAfter, staticsAfter, tablesLeft}
 use Rattle.bounded.proofs.Laws.{Untouched, text-refused, refused-untouched, memory-short, program-ran}
 
 -- ---- the sample in one step, in memory of sevens, two words more than asked of each
@@ -49,6 +50,12 @@ one-statics : staticsAfter one (sevens 18) ≡ replicate 16 0 ++ 7 ∷ 7 ∷ []
 unfolding bounded steps stopOf step instructionOf fieldsOf staticsOf
 one-statics = ap (λ x. staticsAfter x (sevens 18)) ran-one
 
+-- tables that are lent beside it hold the program
+one-tables : tablesLeft one (readProgram (bytesOf sample)) (sevens 768) ≡ tablesOf sampleProgram
+one-tables =
+    ap (λ (x : Stepping). tablesLeft x (readProgram (bytesOf sample)) (sevens 768)) ran-one
+    ∙ ap (λ (r : Reading). tablesAfter r (sevens 768)) sample-reads
+
 -- ---- "23: fewer than 32 frames, 256 objects of 16 cells or 16 statics": a word too few of each
 abbrev lending : ℕ → ℕ → ℕ → Stepping
 lending frames objects statics = stepping (bytesOf sample) 2 (sevens frames) (sevens objects) (sevens statics)
@@ -61,6 +68,10 @@ short-objects = memory-short (bytesOf sample) 2 (sevens 608) (sevens 4351) (seve
 
 short-statics : lending 608 4352 15 ≡ short
 short-statics = memory-short (bytesOf sample) 2 (sevens 608) (sevens 4352) (sevens 15) sampleProgram sample-reads refl
+
+-- "untouched": tables too
+short-tables : tablesLeft (lending 607 4352 16) (readProgram (bytesOf sample)) (sevens 768) ≡ sevens 768
+short-tables = ap (λ (x : Stepping). tablesLeft x (readProgram (bytesOf sample)) (sevens 768)) short-frames
 
 -- ---- a class is missing: 4 at line 2, whatever is lent, and it is untouched
 abbrev oneClass : String

@@ -5,7 +5,7 @@ use Prim.Native.Nat.{ℕ}
 use lib.Dec.{leb}
 use lib.ListN.{length}
 use Rattle.instruction.specs.Word.{pick}
-use Rattle.reader.specs.Read.{Reading, refused, taken, readProgram}
+use Rattle.reader.specs.Read.{Reading, refused, taken, readProgram, tablesAfter}
 use Rattle.machine.specs.State.{Status, running, raised, done, uncaught, failed}
 use Rattle.memory.specs.Memory.{framesOf, objectsOf, staticsOf}
 use Rattle.turn.specs.Stop.{haltNumber}
@@ -73,6 +73,12 @@ abbrev pub staticsAfter : Stepping → List ℕ → List ℕ
 staticsAfter (turnedDown number line) before = before
 staticsAfter short before = before
 staticsAfter (ran x) before = staticsOf (x .state) before
+
+-- tables for the program that are lent beside it: untouched likewise, else they hold the program
+abbrev pub tablesLeft : Stepping → Reading → List ℕ → List ℕ
+tablesLeft (turnedDown number line) read before = before
+tablesLeft short read before = before
+tablesLeft (ran x) read before = tablesAfter read before
 
 -- document 01's number of each answer, and its values
 abbrev pub numberOf : Outcome → ℕ
