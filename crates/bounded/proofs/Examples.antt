@@ -2,7 +2,7 @@
 -- nothing.
 use mathlib.Core.Path.{_≡_, refl, ap, _∙_}
 use mathlib.Core.Bool.{Bool, true, false, _&&_}
-use mathlib.Core.List.{List, [], _∷_, map}
+use mathlib.Core.List.{List, [], _∷_}
 use Prim.Native.Nat.{ℕ, _≤_}
 use native.Mathlib.Omega.{arith}
 use lib.Dec.{eqb}
@@ -17,24 +17,14 @@ use Rattle.arithmetic.specs.Arithmetic.{computed}
 use Rattle.search.specs.Search.{belowIn, hasField, answers, methodIn, calleeIn, handlerFor}
 use Rattle.reader.proofs.Examples.{sampleProgram}
 use Rattle.machine.specs.declared.Value.the-variants.{Reference}
-use Rattle.machine.specs.declared.Fault.the-variants.{NullAsObject, NumberAsObject, ObjectAsNumber, DivisionByZero, FieldNotHad, NoMethod, NotThrowable, FailedCast}
 use Rattle.machine.specs.State.{Status, running, raised, done, null, top}
 use Rattle.machine.specs.Run.{step}
 use Rattle.machine.proofs.Programs.{program}
-use Rattle.turn.specs.declared.Halt.the-variants.{Done, Uncaught, Faulted, FullStore, FullStack, StepsMade, Outside}
+use Rattle.turn.specs.declared.Halt.the-variants.{Done}
 use Rattle.turn.specs.Stop.{haltNumber, stopOf}
 use Rattle.bounded.specs.Bounded.{Stopped, steps, bounded}
 use Rattle.bounded.specs.Step.{stoppedValues}
 use Rattle.bounded.proofs.Laws.{more-steps}
-
--- "20, 21, 22, 24", and the numbers of the ends
-numbers :
-    map haltNumber
-    (FullStore ∷ FullStack ∷ StepsMade ∷ Outside ∷ Done ∷ Uncaught
-    ∷ Faulted NullAsObject ∷ Faulted NumberAsObject ∷ Faulted ObjectAsNumber ∷ Faulted DivisionByZero
-    ∷ Faulted FieldNotHad ∷ Faulted NoMethod ∷ Faulted NotThrowable ∷ Faulted FailedCast ∷ [])
-    ≡ 20 ∷ 21 ∷ 22 ∷ 24 ∷ 32 ∷ 33 ∷ 41 ∷ 42 ∷ 43 ∷ 44 ∷ 45 ∷ 46 ∷ 47 ∷ 48 ∷ []
-numbers = refl
 
 -- ---- rows
 -- an answer, its number, its values (steps, frames, objects, the pending object), and the method and address of the top frame

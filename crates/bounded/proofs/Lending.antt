@@ -73,6 +73,11 @@ beyond-frames : getD (framesLeft one frames) 32 zeroFrame .method ≡ 7
 unfolding bounded steps stopOf step instructionOf fieldsOf framesOf
 beyond-frames = ap (λ x. getD (framesLeft x frames) 32 zeroFrame .method) ran-one
 
+-- an unused static is zero
+first-static : getD (staticsLeft one (replicate 17 other)) 0 other ≡ zeroValue
+unfolding bounded steps stopOf step instructionOf fieldsOf staticsOf
+first-static = ap (λ x. getD (staticsLeft x (replicate 17 other)) 0 other) ran-one
+
 beyond-statics : getD (staticsLeft one (replicate 17 other)) 16 zeroValue ≡ other
 unfolding bounded steps stopOf step instructionOf fieldsOf staticsOf
 beyond-statics = ap (λ x. getD (staticsLeft x (replicate 17 other)) 16 zeroValue) ran-one
