@@ -55,7 +55,7 @@ impl Verdict {
             Verdict::Violated(Violation { rule, method, address }) => {
                 [35, rule.into(), method.into(), address.into(), 0]
             }
-            Verdict::Refused(Refusal { number, line }) => [number.into(), line.into(), 0, 0, 0],
+            Verdict::Refused(refusal) => refusal.words(),
         }
     }
 }

@@ -71,4 +71,9 @@ impl Refusal {
     pub fn new(number: u8, line: u32) -> Refusal {
         Refusal { number, line }
     }
+
+    /// As an answer: number, line, zeros.
+    pub fn words(&self) -> [u64; 5] {
+        [self.number.into(), self.line.into(), 0, 0, 0]
+    }
 }

@@ -48,7 +48,7 @@ impl Answer {
     /// objects.
     pub fn words(&self) -> [u64; 5] {
         match *self {
-            Answer::Refused(Refusal { number, line }) => [number.into(), line.into(), 0, 0, 0],
+            Answer::Refused(refusal) => refusal.words(),
             Answer::Started(Report { number, steps, pending, frames, objects }) => {
                 let pending = pending.map_or(0, |object| u64::from(object) + 1);
                 [number.into(), steps, pending, frames as u64, objects as u64]

@@ -32,6 +32,11 @@ pub fn read(text: &[u8]) -> Result<Program, Refusal> {
     Ok(program)
 }
 
+/// The words of an answer: the refusal's, or zeros for a program.
+pub fn words(read: &Result<Program, Refusal>) -> [u64; 5] {
+    read.as_ref().map_or_else(Refusal::words, |_| [0; 5])
+}
+
 /// The program as written, its values not yet looked at.
 fn parse(text: &[u8]) -> Result<Program, Refusal> {
     let mut program = Program::default();

@@ -6,6 +6,7 @@ use compare::checker::{Verdict, LEAST_MEMORY};
 use compare::fuzz::differ::{difference, follow};
 use compare::fuzz::left::{Expected, Left};
 use compare::fuzz::lengths::Lengths;
+use compare::fuzz::lent::Lent;
 use compare::fuzz::Case;
 use compare::least::least;
 use compare::program::{Handler, Program};
@@ -35,6 +36,7 @@ fn case(n: u64) -> Case {
         objects: 257,
         statics: 17,
         memory: LEAST_MEMORY + 3,
+        read_answer: 6,
         step_answer: 6,
         check_answer: 5,
     };
@@ -72,6 +74,8 @@ fn numbers_and_answer_words() {
     assert_eq!(noticed(3, |left| left.numbers[1] = 32), "number given by the stepper");
     assert_eq!(noticed(3, |left| left.numbers[2] = 35), "number given by the checker");
     for word in 0..6 {
+        let what = noticed(3, |left| left.read_answer.lent_mut()[word] ^= 1);
+        assert_eq!(what, format!("answer of the reader: element {word}, byte 0 of 8"));
         let what = noticed(3, |left| left.step_answer.lent_mut()[word] ^= 1);
         assert_eq!(what, format!("answer of the stepper: element {word}, byte 0 of 8"));
     }
@@ -80,14 +84,37 @@ fn numbers_and_answer_words() {
 }
 
 #[test]
+fn a_wrong_line_of_the_reader() {
+    let two_classes = b"01ff\n0100\n";
+    for (text, refusal) in [(&[b'0'; 65_537][..], [1, 0]), (two_classes, [4, 3]), (b"", [4, 1])] {
+        let expected = expected(&Case { program: text.to_vec(), ..case(3) });
+        let [number, line] = refusal;
+        assert_eq!(expected.left.numbers[0], number);
+        assert_eq!(expected.left.read_answer.lent()[..5], [number, line, 0, 0, 0]);
+        let mut got = expected.left.clone();
+        got.read_answer.lent_mut()[1] = line + 1;
+        let what = difference(&expected.left, &got).map(|difference| difference.what);
+        assert_eq!(what.as_deref(), Some("answer of the reader: element 1, byte 0 of 8"));
+    }
+}
+
+#[test]
 fn an_answer_written_where_too_few_words_are_lent() {
-    let mut case = case(3);
-    case.lent.step_answer = 4;
-    let expected = expected(&case);
-    let mut got = expected.left.clone();
-    got.step_answer.lent_mut()[0] = 22;
-    assert!(difference(&expected.left, &got).is_some());
-    assert_eq!(expected.left.step_answer.all, Left::before(&case).step_answer.all);
+    let answers: [fn(&mut Left) -> &mut Lent<u64>; 3] =
+        [|left| &mut left.read_answer, |left| &mut left.step_answer, |left| &mut left.check_answer];
+    for words in [0, 4] {
+        let mut case = case(3);
+        let Lengths { read_answer, step_answer, check_answer, .. } = &mut case.lent;
+        [*read_answer, *step_answer, *check_answer] = [words; 3];
+        let mut expected = expected(&case).left;
+        for answer in answers {
+            assert_eq!(answer(&mut expected).all, answer(&mut Left::before(&case)).all);
+            let mut got = expected.clone();
+            let first = answer(&mut got).places.start;
+            answer(&mut got).all[first] = 22;
+            assert!(difference(&expected, &got).is_some());
+        }
+    }
 }
 
 #[test]
@@ -123,6 +150,8 @@ fn guards() {
     assert_eq!(what, "statics: guard 4 before the first element, byte 4 of 8");
     let what = noticed(3, |left| *left.memory.all.last_mut().unwrap() = 0);
     assert_eq!(what, "memory of the checker: guard 64 after the last element, byte 0 of 1");
+    let what = noticed(3, |left| *left.read_answer.all.last_mut().unwrap() = 0);
+    assert_eq!(what, "answer of the reader: guard 4 after the last element, byte 0 of 8");
     let what = noticed(3, |left| left.check_answer.all[3] = 0);
     assert_eq!(what, "answer of the checker: guard 1 before the first element, byte 0 of 8");
 }

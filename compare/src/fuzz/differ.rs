@@ -25,6 +25,7 @@ impl fmt::Display for Difference {
 /// The first difference of what two implementations left.
 pub fn difference(expected: &Left, got: &Left) -> Option<Difference> {
     numbers(expected, got)
+        .or_else(|| place("answer of the reader", &expected.read_answer, &got.read_answer))
         .or_else(|| place("answer of the stepper", &expected.step_answer, &got.step_answer))
         .or_else(|| place("answer of the checker", &expected.check_answer, &got.check_answer))
         .or_else(|| place("frames", &expected.frames, &got.frames))

@@ -6,7 +6,7 @@ use crate::checker::{check, Verdict};
 use crate::machine::structs::{Frame, Object, Structs, Value};
 use crate::machine::{step_in_structs, Answer};
 use crate::program::Program;
-use crate::reader::read;
+use crate::reader::{read, words};
 
 #[derive(Clone)]
 pub struct Left {
@@ -17,6 +17,7 @@ pub struct Left {
     pub statics: Lent<Value>,
     /// The checker's.
     pub memory: Lent<u8>,
+    pub read_answer: Lent<u64>,
     pub step_answer: Lent<u64>,
     pub check_answer: Lent<u64>,
     pub program: Lent<u8>,
@@ -34,6 +35,7 @@ impl Left {
             objects: Lent::filled(pattern, lent.objects, 0),
             statics: Lent::filled(pattern, lent.statics, 0),
             memory: Lent::filled(pattern, lent.memory, case.salt as usize >> 8 & 7),
+            read_answer: Lent::filled(pattern, lent.read_answer, 0),
             step_answer: Lent::filled(pattern, lent.step_answer, 0),
             check_answer: Lent::filled(pattern, lent.check_answer, 0),
             program: Lent::text(&case.program, case.salt),
@@ -54,10 +56,7 @@ pub struct Expected {
 impl Expected {
     /// Makes the calls; `left` is as before them.
     pub fn of(case: &Case, mut left: Left) -> Expected {
-        let (number, program) = match read(left.program.lent()) {
-            Ok(program) => (0, Some(program)),
-            Err(refusal) => (refusal.number.into(), None),
-        };
+        let program = read(left.program.lent());
         let memory = Structs {
             frames: left.frames.lent_mut(),
             objects: left.objects.lent_mut(),
@@ -65,11 +64,12 @@ impl Expected {
         };
         let answer = step_in_structs(left.program.lent(), case.n, memory);
         let verdict = check(left.program.lent(), left.claim.lent(), left.memory.lent_mut());
-        let (of_step, of_check) = (answer.words(), verdict.words());
-        left.numbers = [number, of_step[0], of_check[0]];
+        let (of_read, of_step, of_check) = (words(&program), answer.words(), verdict.words());
+        left.numbers = [of_read[0], of_step[0], of_check[0]];
+        write(&mut left.read_answer, of_read);
         write(&mut left.step_answer, of_step);
         write(&mut left.check_answer, of_check);
-        Expected { program, answer, verdict, left }
+        Expected { program: program.ok(), answer, verdict, left }
     }
 }
 

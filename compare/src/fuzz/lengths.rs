@@ -15,6 +15,7 @@ pub struct Lengths {
     pub statics: usize,
     /// The checker's bytes.
     pub memory: usize,
+    pub read_answer: usize,
     pub step_answer: usize,
     pub check_answer: usize,
 }
@@ -75,9 +76,9 @@ pub fn lengths(random: &mut Random) -> Lengths {
         1..=2 => ANSWER + 1 + random.below(4),
         _ => ANSWER,
     };
-    let (step_answer, check_answer) = (answer(), answer());
+    let [read_answer, step_answer, check_answer] = [answer(), answer(), answer()];
     let [frames, objects, statics] = stepper;
-    Lengths { frames, objects, statics, memory, step_answer, check_answer }
+    Lengths { frames, objects, statics, memory, read_answer, step_answer, check_answer }
 }
 
 /// Nothing in one of two cases, else up to so many.
@@ -104,5 +105,23 @@ fn less(random: &mut Random, least: usize) -> usize {
         0 => least - 1,
         1 => random.below(2),
         _ => random.below(least),
+    }
+}
+
+#[cfg(test)]
+mod tests {
+    use super::*;
+    use std::collections::BTreeSet;
+
+    #[test]
+    fn answers_of_none_to_nine_words_are_lent() {
+        let mut random = Random::new(5);
+        let lent: Vec<Lengths> = (0..2_000).map(|_| lengths(&mut random)).collect();
+        let answers: [fn(&Lengths) -> usize; 3] =
+            [|lent| lent.read_answer, |lent| lent.step_answer, |lent| lent.check_answer];
+        for answer in answers {
+            let words: BTreeSet<usize> = lent.iter().map(answer).collect();
+            assert!(words.into_iter().eq(0..=9));
+        }
     }
 }

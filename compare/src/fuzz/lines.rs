@@ -67,6 +67,7 @@ pub enum Part {
     Objects,
     Statics,
     Memory,
+    ReadAnswer,
     StepAnswer,
     CheckAnswer,
 }
@@ -99,7 +100,7 @@ pub fn all() -> Vec<Line> {
         [Zero, One, Two, Few, Many, Most, Above, Highest]
     };
     all.extend(steps.map(Steps));
-    for part in [Frames, Objects, Statics, Memory, StepAnswer, CheckAnswer] {
+    for part in [Frames, Objects, Statics, Memory, ReadAnswer, StepAnswer, CheckAnswer] {
         all.extend([Size::Smaller, Size::Exact, Size::Larger].map(|size| Length(part, size)));
     }
     all.extend((0..=6).map(Read));

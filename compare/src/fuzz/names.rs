@@ -66,6 +66,7 @@ impl Part {
             Part::Objects => "objects lent:",
             Part::Statics => "statics lent:",
             Part::Memory => "memory of the checker lent:",
+            Part::ReadAnswer => "answer of the reader lent:",
             Part::StepAnswer => "answer of the stepper lent:",
             Part::CheckAnswer => "answer of the checker lent:",
         }

@@ -50,6 +50,7 @@ impl Table {
             (Part::Objects, lent.objects, LEAST[1]),
             (Part::Statics, lent.statics, LEAST[2]),
             (Part::Memory, lent.memory, LEAST_MEMORY),
+            (Part::ReadAnswer, lent.read_answer, ANSWER),
             (Part::StepAnswer, lent.step_answer, ANSWER),
             (Part::CheckAnswer, lent.check_answer, ANSWER),
         ];

@@ -4,7 +4,7 @@ use super::measure::interleaved;
 use super::{library, programs, Measured, ROUNDS};
 use compare::assembly::SAMPLE;
 use compare::generate::largest_program;
-use compare::reader::{read, MAX_LENGTH};
+use compare::reader::{read, words, MAX_LENGTH};
 use std::hint::black_box;
 
 /// A text, how many readings make one measurement, and the number meant, 0 for
@@ -37,16 +37,29 @@ fn refused_text() -> Vec<u8> {
     text
 }
 
-fn rust_read(text: &[u8]) -> u64 {
-    read(text).map_or_else(|refusal| u64::from(refusal.number), |_| 0)
+/// Gives the answer.
+type Reader = fn(&[u8]) -> [u64; 5];
+
+fn proved_read(text: &[u8]) -> [u64; 5] {
+    let mut answer = [0; 5];
+    let number = library::read(text, &mut answer);
+    assert_eq!(number, answer[0]);
+    answer
 }
 
-/// Both read a text over and over.
+fn rust_read(text: &[u8]) -> [u64; 5] {
+    words(&read(text))
+}
+
+/// Both read a text over and over; each answer must be that of the first
+/// reading.
 pub fn measure(given: &Reading) -> Measured {
     let &Reading { name, ref text, times, number } = given;
-    let again =
-        |read: fn(&[u8]) -> u64| (0..times).all(|_| black_box(read(black_box(text))) == number);
-    assert_eq!([rust_read(text), library::read(text)], [number; 2], "{name}");
-    let [proved, rust] = interleaved(ROUNDS, || again(library::read), || again(rust_read));
+    let expected = rust_read(text);
+    assert_eq!(expected[0], number, "{name}");
+    assert_eq!(proved_read(text), expected, "{name}: answers of proved and Rust");
+
+    let again = |reader: Reader| (0..times).all(|_| black_box(reader(black_box(text))) == expected);
+    let [proved, rust] = interleaved(ROUNDS, || again(proved_read), || again(rust_read));
     Measured { name: format!("{name}, {}", text.len()), times, size: text.len(), proved, rust }
 }

@@ -32,7 +32,7 @@ fn compared(case: &Case, table: &mut Table) -> Result<(), Difference> {
 /// What the calls of the proved implementation leave; `left` is as before
 /// them.
 fn proved(case: &Case, mut left: Left) -> Left {
-    let read = library::read(left.program.lent());
+    let read = library::read(left.program.lent(), left.read_answer.lent_mut());
     let memory = Structs {
         frames: left.frames.lent_mut(),
         objects: left.objects.lent_mut(),

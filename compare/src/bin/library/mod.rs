@@ -17,7 +17,12 @@ extern "C" {
         answer_length: usize,
     ) -> u64;
 
-    fn hudzmoke_read(text: *const u8, text_length: usize) -> u64;
+    fn hudzmoke_read(
+        text: *const u8,
+        text_length: usize,
+        answer: *mut u64,
+        answer_length: usize,
+    ) -> u64;
 
     fn hudzmoke_check(
         program: *const u8,
@@ -54,10 +59,12 @@ pub fn step(text: &[u8], n: u64, memory: Structs, answer: &mut [u64]) -> u64 {
     }
 }
 
-/// Gives 0 for a program, else the refusal's number.
-pub fn read(text: &[u8]) -> u64 {
-    // SAFETY: the pointer is that of a slice of this length.
-    unsafe { hudzmoke_read(text.as_ptr(), text.len()) }
+/// Gives 0 for a program, else the refusal's number. An answer of five words or
+/// more gets that number, the line (0 for a program), 0, 0, 0.
+pub fn read(text: &[u8], answer: &mut [u64]) -> u64 {
+    // SAFETY: each pointer is that of a slice of the length beside it, and the
+    // slices lie apart.
+    unsafe { hudzmoke_read(text.as_ptr(), text.len(), answer.as_mut_ptr(), answer.len()) }
 }
 
 /// Gives the number. An answer of five words or more gets number, then count,
