@@ -69,11 +69,11 @@ enum {
     HUDZMOKE_CLAIM_NOT_DUE = 12,      /* not the frame due, one too many, or one missing */
     HUDZMOKE_CLAIM_BAD_BIT = 13,      /* a mask has a bit that is not allowed */
 
-    /* The run stands still. 20 and 21: the next step is neither made nor counted. */
+    /* Refused for the state. 20 and 21: the step is neither made nor counted. */
     HUDZMOKE_FULL_STORE = 20, /* new-instance at 256 objects */
     HUDZMOKE_FULL_STACK = 21, /* a call without fault at 32 frames */
     HUDZMOKE_STEPS_MADE = 22, /* the steps asked for are made, and the run has not ended */
-    HUDZMOKE_SHORT = 23,      /* too little memory is lent */
+    HUDZMOKE_SHORT = 23,      /* too little memory is lent; it is untouched */
     HUDZMOKE_OUTSIDE = 24,    /* an address outside its method */
 
     /* The run has ended. */
