@@ -1,5 +1,5 @@
 -- The words of readings, verdicts and outcomes in six words lent, and none in four, by computation; the numbers of all halts stand
--- in crates/bounded/proofs/Examples.antt. Assumes nothing.
+-- in crates/turn/proofs/Stops.antt. Assumes nothing.
 use mathlib.Core.Path.{_≡_, refl}
 use mathlib.Core.List.{List, [], _∷_, map}
 use Prim.Native.Nat.{ℕ}
