@@ -48,7 +48,9 @@ pub extern "C" fn hudzmoke_step(
         ⌜ now (answer .exit) ≡ answered (steppingNumber x) (steppingValues x) (now (answer .entry)) ⌝ }
     ensures memory { λ r.
         let x = lending (now (text .entry)) n (now (frames .entry)) (now (objects .entry)) (now (statics .entry)) in
-        ⌜ (now (frames .exit) ≡ framesLeft x (now (frames .entry))) × (now (objects .exit) ≡ objectsLeft x (now (objects .entry))) × (now (statics .exit) ≡ staticsLeft x (now (statics .entry))) ⌝ }
+        ⌜ (now (frames .exit) ≡ framesLeft x (now (frames .entry)))
+        × (now (objects .exit) ≡ objectsLeft x (now (objects .entry)))
+        × (now (statics .exit) ≡ staticsLeft x (now (statics .entry))) ⌝ }
 {
     let outcome = stepper::step(text, n, frames, objects, statics);
     answer::put_outcome(answer, outcome)
@@ -72,7 +74,9 @@ pub extern "C" fn hudzmoke_check(
         ⌜ now (memory .exit) ≡ memoryAfter x (now (memory .entry)) ⌝ }
     ensures coverage { λ r.
         let x = checking (now (program .entry)) (now (claim .entry)) (length (now (memory .entry))) in
-        ⌜ ((k : ℕ) → r ≡ numberOf (Accepted k) → checkingValues x ≡ valuesOf (Accepted k) → Coverage (now (program .entry)) (now (claim .entry)) (callsIn k (now (memory .exit)))) ⌝ }
+        ⌜ ((k : ℕ) → r ≡ numberOf (Accepted k)
+        → checkingValues x ≡ valuesOf (Accepted k)
+        → Coverage (now (program .entry)) (now (claim .entry)) (callsIn k (now (memory .exit)))) ⌝ }
 {
     let verdict = checker::check(program, claim, memory);
     answer::put_verdict(answer, verdict)

@@ -8,7 +8,7 @@ use lib.ListN.{length, replicate}
 use Rattle.instruction.specs.Test.{most, _&_}
 use Rattle.instruction.proofs.Laws.{holds}
 use Rattle.reader.specs.declared.Answer.{Answer}
-use Rattle.reader.specs.Read.{Reading, refused, taken, readProgram, readingNumber, readingValues, numberOf as readNumber, valuesOf as readValues, lineOf}
+use Rattle.reader.specs.Read.{Reading, refused, taken, readProgram, readingNumber, readingValues, tablesAfter, numberOf as readNumber, valuesOf as readValues, lineOf}
 use Rattle.reader.proofs.Answers.{line-is, found-program}
 use Rattle.cells.specs.declared.Value.{Value}
 use Rattle.cells.specs.declared.Frame.{Frame}
@@ -16,7 +16,7 @@ use Rattle.cells.specs.declared.Object.{Object}
 use Rattle.cells.specs.Cells.{zeroValue, zeroFrame, zeroObject}
 use Rattle.bounded.specs.declared.Outcome.{Outcome}
 use Rattle.bounded.specs.declared.Outcome.the-variants.{Refused, Short, Ran}
-use Rattle.bounded.specs.Step.{Stepping, turnedDown, short, ran, enough, steppingBy, stepping, steppingNumber, steppingValues, framesAfter, objectsAfter, staticsAfter, pendingIn, pendingValues, numberOf, valuesOf}
+use Rattle.bounded.specs.Step.{Stepping, turnedDown, short, ran, enough, steppingBy, stepping, steppingNumber, steppingValues, framesAfter, objectsAfter, staticsAfter, tablesLeft, pendingIn, pendingValues, numberOf, valuesOf}
 use Rattle.bounded.specs.Lent.{lending, framesLeft, objectsLeft, staticsLeft}
 use Rattle.plain.specs.declared.Left.{Left}
 use Rattle.plain.specs.Words.{put, wordIn, framesWord, objectsWord, hasRun}
@@ -60,6 +60,28 @@ module _ (text : List ℕ) (n : ℕ) (frames objects statics : List ℕ) where
   few-answers room r e =
       rw room
       ((e .0 ∙ ap steppingNumber (sym (few (readProgram text) n)), e .1 ∙ ap steppingValues (sym (few (readProgram text) n))), few-left (readProgram text) n frames objects statics)
+
+-- ---- tables for the program
+
+-- where memory suffices they hold what is read
+room-tables : (x : Reading) (n : ℕ) (t : List ℕ) → tablesAfter x t ≡ tablesLeft (steppingBy x n true) x t
+room-tables (refused number line) n t = refl
+room-tables (taken p) n t = refl
+
+few-tables : (x : Reading) (n : ℕ) (t : List ℕ) → t ≡ tablesLeft (steppingBy x n false) x t
+few-tables (refused number line) n t = refl
+few-tables (taken p) n t = refl
+
+module _ (text : List ℕ) (n : ℕ) (frames objects statics t : List ℕ) where
+  pub tables-read : enough (length frames) (length objects) (length statics) ≡ true
+      → tablesAfter (readProgram text) t ≡ tablesLeft (stepping text n frames objects statics) (readProgram text) t
+  unfolding stepping
+  tables-read room = rw room (room-tables (readProgram text) n t)
+
+  pub tables-kept : enough (length frames) (length objects) (length statics) ≡ false
+      → t ≡ tablesLeft (stepping text n frames objects statics) (readProgram text) t
+  unfolding stepping
+  tables-kept room = rw room (few-tables (readProgram text) n t)
 
 -- ---- what is written where a program ran
 

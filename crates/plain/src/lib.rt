@@ -9,8 +9,8 @@ use cells::Value;
 ghost use mathlib.Core.Path.{_≡_};
 ghost use mathlib.Core.Bool.{true, false};
 ghost use lib.ListN.{length, replicate};
-ghost use Rattle.reader.specs.Read.{readProgram, tablesAfter};
-ghost use Rattle.bounded.specs.Step.{stepping, steppingNumber, steppingValues, framesAfter, objectsAfter, staticsAfter, enough, steppingBy, numberOf, valuesOf};
+ghost use Rattle.reader.specs.Read.{readProgram};
+ghost use Rattle.bounded.specs.Step.{stepping, steppingNumber, steppingValues, framesAfter, objectsAfter, staticsAfter, tablesLeft, enough, steppingBy, numberOf, valuesOf};
 ghost use Rattle.bounded.specs.Lent.{lending, framesLeft, objectsLeft, staticsLeft};
 ghost use Rattle.plain.specs.Words.{put, wordIn, framesWord, objectsWord, hasRun};
 
@@ -38,8 +38,14 @@ fn put_left(left: Left, frames: &mut [u64], objects: &mut [u64], statics: &mut [
 
 // The stepper, in frames, objects and statics of its own, each of which begins as given.
 fn run(text: &[u8], n: u64, f: Frame, o: Object, v: Value) -> Left
-    ensures answer { λ r. ⌜ (numberOf (r .outcome) ≡ steppingNumber (lending (now (text .entry)) n (replicate 32 f) (replicate 256 o) (replicate 16 v))) × (valuesOf (r .outcome) ≡ steppingValues (lending (now (text .entry)) n (replicate 32 f) (replicate 256 o) (replicate 16 v))) ⌝ }
-    ensures memory { λ r. ⌜ (r .frames ≡ framesLeft (lending (now (text .entry)) n (replicate 32 f) (replicate 256 o) (replicate 16 v)) (replicate 32 f)) × (r .objects ≡ objectsLeft (lending (now (text .entry)) n (replicate 32 f) (replicate 256 o) (replicate 16 v)) (replicate 256 o)) × (r .statics ≡ staticsLeft (lending (now (text .entry)) n (replicate 32 f) (replicate 256 o) (replicate 16 v)) (replicate 16 v)) ⌝ }
+    ensures answer { λ r.
+        let x = lending (now (text .entry)) n (replicate 32 f) (replicate 256 o) (replicate 16 v) in
+        ⌜ (numberOf (r .outcome) ≡ steppingNumber x) × (valuesOf (r .outcome) ≡ steppingValues x) ⌝ }
+    ensures memory { λ r.
+        let x = lending (now (text .entry)) n (replicate 32 f) (replicate 256 o) (replicate 16 v) in
+        ⌜ (r .frames ≡ framesLeft x (replicate 32 f))
+        × (r .objects ≡ objectsLeft x (replicate 256 o))
+        × (r .statics ≡ staticsLeft x (replicate 16 v)) ⌝ }
 {
     let mut frames = [f; 32];
     let mut objects = [o; 256];
@@ -86,8 +92,14 @@ fn begin(
     statics: &mut [u64],
 ) -> Outcome
     requires { ⌜ enough (length (now frames)) (length (now objects)) (length (now statics)) ≡ true ⌝ }
-    ensures answer { λ r. ⌜ (numberOf r ≡ steppingNumber (stepping (now (text .entry)) n (now (frames .entry)) (now (objects .entry)) (now (statics .entry)))) × (valuesOf r ≡ steppingValues (stepping (now (text .entry)) n (now (frames .entry)) (now (objects .entry)) (now (statics .entry)))) ⌝ }
-    ensures memory { λ r. ⌜ (now (frames .exit) ≡ framesAfter (stepping (now (text .entry)) n (now (frames .entry)) (now (objects .entry)) (now (statics .entry))) (now (frames .entry))) × (now (objects .exit) ≡ objectsAfter (stepping (now (text .entry)) n (now (frames .entry)) (now (objects .entry)) (now (statics .entry))) (now (objects .entry))) × (now (statics .exit) ≡ staticsAfter (stepping (now (text .entry)) n (now (frames .entry)) (now (objects .entry)) (now (statics .entry))) (now (statics .entry))) ⌝ }
+    ensures answer { λ r.
+        let x = stepping (now (text .entry)) n (now (frames .entry)) (now (objects .entry)) (now (statics .entry)) in
+        ⌜ (numberOf r ≡ steppingNumber x) × (valuesOf r ≡ steppingValues x) ⌝ }
+    ensures memory { λ r.
+        let x = stepping (now (text .entry)) n (now (frames .entry)) (now (objects .entry)) (now (statics .entry)) in
+        ⌜ (now (frames .exit) ≡ framesAfter x (now (frames .entry)))
+        × (now (objects .exit) ≡ objectsAfter x (now (objects .entry)))
+        × (now (statics .exit) ≡ staticsAfter x (now (statics .entry))) ⌝ }
 {
     let f = cells::zero_frame();
     let o = cells::zero_object();
@@ -103,7 +115,9 @@ fn begin(
 
 // What becomes of a text where too little memory is lent.
 fn refusal(text: &[u8]) -> Outcome
-    ensures answer { λ r. ⌜ (numberOf r ≡ steppingNumber (steppingBy (readProgram (now (text .entry))) 0 false)) × (valuesOf r ≡ steppingValues (steppingBy (readProgram (now (text .entry))) 0 false)) ⌝ }
+    ensures answer { λ r.
+        let x = steppingBy (readProgram (now (text .entry))) 0 false in
+        ⌜ (numberOf r ≡ steppingNumber x) × (valuesOf r ≡ steppingValues x) ⌝ }
 {
     let mut t = [0u64; 768];
     let read = reader::read(text, &mut t);
@@ -125,8 +139,14 @@ pub fn step(
     objects: &mut [u64],
     statics: &mut [u64],
 ) -> Outcome
-    ensures answer { λ r. ⌜ (numberOf r ≡ steppingNumber (stepping (now (text .entry)) n (now (frames .entry)) (now (objects .entry)) (now (statics .entry)))) × (valuesOf r ≡ steppingValues (stepping (now (text .entry)) n (now (frames .entry)) (now (objects .entry)) (now (statics .entry)))) ⌝ }
-    ensures memory { λ r. ⌜ (now (frames .exit) ≡ framesAfter (stepping (now (text .entry)) n (now (frames .entry)) (now (objects .entry)) (now (statics .entry))) (now (frames .entry))) × (now (objects .exit) ≡ objectsAfter (stepping (now (text .entry)) n (now (frames .entry)) (now (objects .entry)) (now (statics .entry))) (now (objects .entry))) × (now (statics .exit) ≡ staticsAfter (stepping (now (text .entry)) n (now (frames .entry)) (now (objects .entry)) (now (statics .entry))) (now (statics .entry))) ⌝ }
+    ensures answer { λ r.
+        let x = stepping (now (text .entry)) n (now (frames .entry)) (now (objects .entry)) (now (statics .entry)) in
+        ⌜ (numberOf r ≡ steppingNumber x) × (valuesOf r ≡ steppingValues x) ⌝ }
+    ensures memory { λ r.
+        let x = stepping (now (text .entry)) n (now (frames .entry)) (now (objects .entry)) (now (statics .entry)) in
+        ⌜ (now (frames .exit) ≡ framesAfter x (now (frames .entry)))
+        × (now (objects .exit) ≡ objectsAfter x (now (objects .entry)))
+        × (now (statics .exit) ≡ staticsAfter x (now (statics .entry))) ⌝ }
 {
     if suffices(frames.len(), objects.len(), statics.len()) {
         return begin(text, n, frames, objects, statics);
@@ -134,7 +154,7 @@ pub fn step(
     refusal(text)
 }
 
-// The same as `step`, in tables for the program that the caller lends: read, they hold the program.
+// The same as `step`, in tables for the program that the caller lends: they hold the program where it ran, else they are as they were.
 pub fn step_in(
     text: &[u8],
     n: u64,
@@ -143,10 +163,21 @@ pub fn step_in(
     objects: &mut [u64],
     statics: &mut [u64],
 ) -> Outcome
-    ensures answer { λ r. ⌜ (numberOf r ≡ steppingNumber (stepping (now (text .entry)) n (now (frames .entry)) (now (objects .entry)) (now (statics .entry)))) × (valuesOf r ≡ steppingValues (stepping (now (text .entry)) n (now (frames .entry)) (now (objects .entry)) (now (statics .entry)))) ⌝ }
-    ensures memory { λ r. ⌜ (now (frames .exit) ≡ framesAfter (stepping (now (text .entry)) n (now (frames .entry)) (now (objects .entry)) (now (statics .entry))) (now (frames .entry))) × (now (objects .exit) ≡ objectsAfter (stepping (now (text .entry)) n (now (frames .entry)) (now (objects .entry)) (now (statics .entry))) (now (objects .entry))) × (now (statics .exit) ≡ staticsAfter (stepping (now (text .entry)) n (now (frames .entry)) (now (objects .entry)) (now (statics .entry))) (now (statics .entry))) ⌝ }
-    ensures tables { λ r. ⌜ now (t .exit) ≡ tablesAfter (readProgram (now (text .entry))) (now (t .entry)) ⌝ }
+    ensures answer { λ r.
+        let x = stepping (now (text .entry)) n (now (frames .entry)) (now (objects .entry)) (now (statics .entry)) in
+        ⌜ (numberOf r ≡ steppingNumber x) × (valuesOf r ≡ steppingValues x) ⌝ }
+    ensures memory { λ r.
+        let x = stepping (now (text .entry)) n (now (frames .entry)) (now (objects .entry)) (now (statics .entry)) in
+        ⌜ (now (frames .exit) ≡ framesAfter x (now (frames .entry)))
+        × (now (objects .exit) ≡ objectsAfter x (now (objects .entry)))
+        × (now (statics .exit) ≡ staticsAfter x (now (statics .entry))) ⌝ }
+    ensures tables { λ r.
+        let x = stepping (now (text .entry)) n (now (frames .entry)) (now (objects .entry)) (now (statics .entry)) in
+        ⌜ now (t .exit) ≡ tablesLeft x (readProgram (now (text .entry))) (now (t .entry)) ⌝ }
 {
-    reader::read(text, t);
-    step(text, n, frames, objects, statics)
+    if suffices(frames.len(), objects.len(), statics.len()) {
+        reader::read(text, t);
+        return begin(text, n, frames, objects, statics);
+    }
+    refusal(text)
 }

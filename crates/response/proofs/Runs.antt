@@ -18,7 +18,7 @@ use Rattle.memory.specs.Memory.{frameWord, frameAt, framesOf, objectsOf, static
 use Rattle.memory.specs.Writes.{framePlace}
 use Rattle.bounded.specs.declared.Outcome.{Outcome}
 use Rattle.bounded.specs.Bounded.{bounded}
-use Rattle.bounded.specs.Step.{Stepping, turnedDown, ran, stepping, steppingNumber, steppingValues, framesAfter, objectsAfter, staticsAfter, numberOf, valuesOf, pendingIn, pendingValues}
+use Rattle.bounded.specs.Step.{Stepping, turnedDown, ran, stepping, steppingNumber, steppingValues, framesAfter, objectsAfter, staticsAfter, tablesLeft, numberOf, valuesOf, pendingIn, pendingValues}
 use Rattle.bounded.proofs.Laws.{frames-most, objects-most, text-refused, program-ran}
 use Rattle.bounded.proofs.Outcomes.{pendingFor, outcomeFor, outcome-is}
 use Rattle.rows.specs.Rows.{stateRows}
@@ -40,7 +40,7 @@ pub record Stepped (panel : List ℕ) (n : ℕ) (t fs os ss : List ℕ) (o : Out
   pub frames : fs₁ ≡ framesAfter (stepping panel n fs os ss) fs
   pub objects : os₁ ≡ objectsAfter (stepping panel n fs os ss) os
   pub statics : ss₁ ≡ staticsAfter (stepping panel n fs os ss) ss
-  pub tables : t₁ ≡ tablesAfter (readProgram panel) t
+  pub tables : t₁ ≡ tablesLeft (stepping panel n fs os ss) (readProgram panel) t
 
 -- ---- a program that is read
 pub registers-few : (p : Program) → Formed p → (m : ℕ) → registers p m ≤ 16
@@ -79,7 +79,11 @@ module _ (panel : List ℕ) (n : ℕ) (t fs os ss : List ℕ) (o : Outcome) (t�
 
     is-program : programIn t₁ ≡ p
     is-program =
-        ap programIn (d .tables ∙ ap (λ (r : Reading). tablesAfter r t) e) ∙ program-of-tables p (formed .limited)
+        ap programIn
+        (d .tables
+        ∙ ap (λ (y : Stepping). tablesLeft y (readProgram panel) t) ran-there
+        ∙ ap (λ (r : Reading). tablesAfter r t) e)
+        ∙ program-of-tables p (formed .limited)
 
     is-frames : fs₁ ≡ framesOf (bounded p n .state) fs
     is-frames = d .frames ∙ ap (λ (y : Stepping). framesAfter y fs) ran-there
