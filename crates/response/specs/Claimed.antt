@@ -17,7 +17,7 @@ abbrev pub linesFor : List Made → List ℕ
 linesFor [] = []
 linesFor (x ∷ xs) = three (x .caller) (x .address) (x .callee) ++ linesFor xs
 
--- the calls that such lines say, nine bytes each: of every number its two digits
+-- the calls that such lines say: a line has nine bytes, its three numbers "two digits each"
 unfoldable pub numberSaid : List ℕ → ℕ → ℕ
 numberSaid lines at = digitOf (getD lines at 0) * 16 + digitOf (getD lines (at + 1) 0)
 
