@@ -20,6 +20,16 @@ fn ask(count: usize, first: &[u8], second: &[u8], third: &[u8]) {
     tool::obey(count, first, second, third, STDOUT_FILENO);
 }
 
+// One word, and two.
+fn one(word: &[u8]) {
+    ask(1, word, b"", b"");
+}
+
+fn two(first: &[u8], second: &[u8]) {
+    ask(2, first, second, b"");
+}
+
+// `check PANEL CLAIM`, and `step N PANEL`.
 fn check(panel: &[u8], claim: &[u8]) {
     ask(3, b"check", panel, claim);
 }
@@ -28,20 +38,33 @@ fn step(n: &[u8], panel: &[u8]) {
     ask(3, b"step", n, panel);
 }
 
+// A claim about the panel of all rules, a claim about the sample, and nine steps of a panel.
+fn rule(claim: &[u8]) {
+    check(b"rules.panel", claim);
+}
+
+fn sample(claim: &[u8]) {
+    check(b"panel.txt", claim);
+}
+
+fn nine(panel: &[u8]) {
+    step(b"9", panel);
+}
+
 // An accepted claim, and one for each rule that breaks it.
 fn rules() {
-    check(b"rules.panel", b"rules.claim");
-    check(b"rules.panel", b"rule0.claim");
-    check(b"rules.panel", b"rule1.claim");
-    check(b"rules.panel", b"rule2.claim");
-    check(b"rules.panel", b"rule3.claim");
-    check(b"rules.panel", b"rule4.claim");
-    check(b"rules.panel", b"rule5.claim");
-    check(b"rules.panel", b"rule6.claim");
-    check(b"rules.panel", b"rule7.claim");
-    check(b"rules.panel", b"rule8.claim");
-    check(b"rules.panel", b"rule9.claim");
-    check(b"rules.panel", b"rule10.claim");
+    rule(b"rules.claim");
+    rule(b"rule0.claim");
+    rule(b"rule1.claim");
+    rule(b"rule2.claim");
+    rule(b"rule3.claim");
+    rule(b"rule4.claim");
+    rule(b"rule5.claim");
+    rule(b"rule6.claim");
+    rule(b"rule7.claim");
+    rule(b"rule8.claim");
+    rule(b"rule9.claim");
+    rule(b"rule10.claim");
 }
 
 // Refusals 1 to 6 of a panel and 9 to 13 of a claim; a refused panel hides a refused claim. A folder opens, and cannot be read.
@@ -52,55 +75,55 @@ fn refusals() {
     check(b"missing.panel", b"missing.claim");
     check(b"no_method.panel", b"claim.txt");
     check(b"falls.panel", b"letter.txt");
-    check(b"panel.txt", b"long.claim");
-    check(b"panel.txt", b"letter.txt");
-    check(b"panel.txt", b"panel.txt");
-    check(b"panel.txt", b"missing.claim");
-    check(b"panel.txt", b"bit.claim");
-    step(b"9", b"falls.panel");
-    step(b"9", b"missing.panel");
+    sample(b"long.claim");
+    sample(b"letter.txt");
+    sample(b"panel.txt");
+    sample(b"missing.claim");
+    sample(b"bit.claim");
+    nine(b"falls.panel");
+    nine(b"missing.panel");
     check(b".", b"claim.txt");
-    check(b"panel.txt", b".");
-    step(b"9", b".");
+    sample(b".");
+    nine(b".");
 }
 
 // A run that ends, stops 20 to 22, faults 1 to 8.
 fn runs() {
-    ask(2, b"step", b"1000", b"");
+    two(b"step", b"1000");
     step(b"99999999999999999999999", b"uncaught.panel");
     step(b"1000", b"full_store.panel");
     step(b"1000", b"full_stack.panel");
-    ask(2, b"step", b"2", b"");
-    step(b"9", b"fault1.panel");
-    step(b"9", b"fault2.panel");
-    step(b"9", b"fault3.panel");
-    step(b"9", b"fault4.panel");
-    step(b"9", b"fault5.panel");
-    step(b"9", b"fault6.panel");
-    step(b"9", b"fault7.panel");
-    step(b"9", b"fault8.panel");
+    two(b"step", b"2");
+    nine(b"fault1.panel");
+    nine(b"fault2.panel");
+    nine(b"fault3.panel");
+    nine(b"fault4.panel");
+    nine(b"fault5.panel");
+    nine(b"fault6.panel");
+    nine(b"fault7.panel");
+    nine(b"fault8.panel");
 }
 
 // Words that ask for help, and words that ask nothing.
 fn words() {
-    ask(1, b"help", b"", b"");
-    ask(1, b"--help", b"", b"");
-    ask(1, b"-h", b"", b"");
-    ask(2, b"help", b"step", b"");
-    ask(2, b"--help", b"step", b"");
-    ask(2, b"-h", b"step", b"");
-    ask(1, b"verify", b"", b"");
-    ask(1, b"check", b"", b"");
-    ask(2, b"check", b"panel.txt", b"");
-    ask(1, b"step", b"", b"");
-    ask(2, b"step", b"12a", b"");
+    one(b"help");
+    one(b"--help");
+    one(b"-h");
+    two(b"help", b"step");
+    two(b"--help", b"step");
+    two(b"-h", b"step");
+    one(b"verify");
+    one(b"check");
+    two(b"check", b"panel.txt");
+    one(b"step");
+    two(b"step", b"12a");
     ask(3, b"step", b"panel.txt", b"2");
 }
 
 // Without words the tool reads panel.txt and claim.txt and tells nothing of the verdict; `check` tells it.
 fn main() {
     ask(0, b"", b"", b"");
-    check(b"panel.txt", b"claim.txt");
+    sample(b"claim.txt");
     rules();
     refusals();
     runs();
