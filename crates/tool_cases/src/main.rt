@@ -104,6 +104,14 @@ fn runs() {
     nine(b"fault8.panel");
 }
 
+// The example that docs/FORMATS.md explains line by line, with a claim that forgets the exception at its handler.
+fn example() {
+    check(b"example.panel", b"example.claim");
+    check(b"example.panel", b"handler.claim");
+    nine(b"example.panel");
+    step(b"1000", b"example.panel");
+}
+
 // Words that ask for help, and words that ask nothing.
 fn words() {
     one(b"help");
@@ -127,5 +135,6 @@ fn main() {
     rules();
     refusals();
     runs();
+    example();
     words();
 }
