@@ -65,12 +65,25 @@ pub fn of_claim(
     out: &mut [u8],
     line: &mut [u8],
 ) -> Response
-    ensures count { λ r. ⌜ r .printed ≡ filledCount (said (now (panel .entry)) (now (claim .entry))) (now (out .entry)) ⌝ }
-    ensures bytes { λ r. ⌜ now (out .exit) ≡ filled (said (now (panel .entry)) (now (claim .entry))) (now (out .entry)) ⌝ }
-    ensures whole { λ r. ⌜ (73737 ≤ length (now (out .entry)) → r .printed ≡ length (said (now (panel .entry)) (now (claim .entry)))) ⌝ }
-    ensures words { λ r. ⌜ Put (now (line .entry)) 0 (claimTold (now (table .entry)) (now (panel .entry)) (now (claim .entry))) (now (line .exit)) (r .told) ⌝ }
-    ensures all_words { λ r. ⌜ (200 ≤ length (now (line .entry)) → r .told ≡ length (claimTold (now (table .entry)) (now (panel .entry)) (now (claim .entry)))) ⌝ }
-    ensures coverage { λ r. ⌜ ((lines : List ℕ) → take (r .printed) (now (out .exit)) ≡ acceptedWord ++ lines → Coverage (now (panel .entry)) (now (claim .entry)) (callsSaid lines)) ⌝ }
+    ensures count { λ r.
+        let x = said (now (panel .entry)) (now (claim .entry)) in
+        ⌜ r .printed ≡ filledCount x (now (out .entry)) ⌝ }
+    ensures bytes { λ r.
+        let x = said (now (panel .entry)) (now (claim .entry)) in
+        ⌜ now (out .exit) ≡ filled x (now (out .entry)) ⌝ }
+    ensures whole { λ r.
+        let x = said (now (panel .entry)) (now (claim .entry)) in
+        ⌜ (73737 ≤ length (now (out .entry)) → r .printed ≡ length x) ⌝ }
+    ensures words { λ r.
+        let x = claimTold (now (table .entry)) (now (panel .entry)) (now (claim .entry)) in
+        ⌜ Put (now (line .entry)) 0 x (now (line .exit)) (r .told) ⌝ }
+    ensures all_words { λ r.
+        let x = claimTold (now (table .entry)) (now (panel .entry)) (now (claim .entry)) in
+        ⌜ (200 ≤ length (now (line .entry)) → r .told ≡ length x) ⌝ }
+    ensures coverage { λ r.
+        let printed = take (r .printed) (now (out .exit)) in
+        ⌜ ((lines : List ℕ) → printed ≡ acceptedWord ++ lines
+        → Coverage (now (panel .entry)) (now (claim .entry)) (callsSaid lines)) ⌝ }
 {
     let mut memory = lent();
     let v = judge(panel, claim, &mut memory);

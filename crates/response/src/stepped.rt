@@ -43,9 +43,16 @@ fn top_of(o: Outcome) -> u8
 // front of line, as much as goes in.
 pub fn of_run(panel: &[u8], n: u64, table: &[u8], out: &mut [u8], line: &mut [u8]) -> Response
     ensures bytes { λ r. ⌜ Put (now (out .entry)) 0 (runSaid (now (panel .entry)) n) (now (out .exit)) (r .printed) ⌝ }
-    ensures whole { λ r. ⌜ (44983 ≤ length (now (out .entry)) → (r .printed ≡ length (runSaid (now (panel .entry)) n)) × (now (out .exit) ≡ runSaid (now (panel .entry)) n ++ drop (length (runSaid (now (panel .entry)) n)) (now (out .entry)))) ⌝ }
-    ensures words { λ r. ⌜ Put (now (line .entry)) 0 (runToldFor (now (table .entry)) (now (panel .entry)) n) (now (line .exit)) (r .told) ⌝ }
-    ensures all_words { λ r. ⌜ (200 ≤ length (now (line .entry)) → r .told ≡ length (runToldFor (now (table .entry)) (now (panel .entry)) n)) ⌝ }
+    ensures whole { λ r.
+        let x = runSaid (now (panel .entry)) n in
+        ⌜ (44983 ≤ length (now (out .entry))
+        → (r .printed ≡ length x) × (now (out .exit) ≡ x ++ drop (length x) (now (out .entry)))) ⌝ }
+    ensures words { λ r.
+        let x = runToldFor (now (table .entry)) (now (panel .entry)) n in
+        ⌜ Put (now (line .entry)) 0 x (now (line .exit)) (r .told) ⌝ }
+    ensures all_words { λ r.
+        let x = runToldFor (now (table .entry)) (now (panel .entry)) n in
+        ⌜ (200 ≤ length (now (line .entry)) → r .told ≡ length x) ⌝ }
 {
     let mut t = [0u64; 768];
     let mut fs = frames();
