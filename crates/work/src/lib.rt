@@ -20,8 +20,7 @@ fn binop(
 ) -> Gone
     ensures after { λ r.
         let before = lent (now (frames .entry)) (now (objects .entry)) (now (statics .entry)) in
-        let after = lent (now (frames .exit)) (now (objects .exit)) (now (statics .exit)) in
-        ⌜ done r after ≡ binopDone (now (t .entry)) before s ⌝ }
+        ⌜ done r (lent (now (frames .exit)) (now (objects .exit)) (now (statics .exit))) ≡ binopDone (now (t .entry)) before s ⌝ }
 {
     let w = site::wanted(s);
     let x = store::register_at(frames, s.top, w.first, w.none);
@@ -49,8 +48,7 @@ fn branch(
 ) -> Gone
     ensures after { λ r.
         let before = lent (now (frames .entry)) (now (objects .entry)) (now (statics .entry)) in
-        let after = lent (now (frames .exit)) (now (objects .exit)) (now (statics .exit)) in
-        ⌜ done r after ≡ branchDone (now (t .entry)) before s ⌝ }
+        ⌜ done r (lent (now (frames .exit)) (now (objects .exit)) (now (statics .exit))) ≡ branchDone (now (t .entry)) before s ⌝ }
 {
     let w = site::wanted(s);
     let x = store::register_at(frames, s.top, w.first, w.none);
@@ -78,8 +76,7 @@ fn get_field(
 ) -> Gone
     ensures after { λ r.
         let before = lent (now (frames .entry)) (now (objects .entry)) (now (statics .entry)) in
-        let after = lent (now (frames .exit)) (now (objects .exit)) (now (statics .exit)) in
-        ⌜ done r after ≡ igetDone (now (t .entry)) before s ⌝ }
+        ⌜ done r (lent (now (frames .exit)) (now (objects .exit)) (now (statics .exit))) ≡ igetDone (now (t .entry)) before s ⌝ }
 {
     let w = site::wanted(s);
     let x = store::register_at(frames, s.top, w.first, w.none);
@@ -107,8 +104,7 @@ fn put_field(
 ) -> Gone
     ensures after { λ r.
         let before = lent (now (frames .entry)) (now (objects .entry)) (now (statics .entry)) in
-        let after = lent (now (frames .exit)) (now (objects .exit)) (now (statics .exit)) in
-        ⌜ done r after ≡ iputDone (now (t .entry)) before s ⌝ }
+        ⌜ done r (lent (now (frames .exit)) (now (objects .exit)) (now (statics .exit))) ≡ iputDone (now (t .entry)) before s ⌝ }
 {
     let w = site::wanted(s);
     let x = store::register_at(frames, s.top, w.first, w.none);
@@ -136,8 +132,7 @@ fn get_static(
 ) -> Gone
     ensures after { λ r.
         let before = lent (now (frames .entry)) (now (objects .entry)) (now (statics .entry)) in
-        let after = lent (now (frames .exit)) (now (objects .exit)) (now (statics .exit)) in
-        ⌜ done r after ≡ sgetDone (now (t .entry)) before s ⌝ }
+        ⌜ done r (lent (now (frames .exit)) (now (objects .exit)) (now (statics .exit))) ≡ sgetDone (now (t .entry)) before s ⌝ }
 {
     let w = site::wanted(s);
     let x = store::register_at(frames, s.top, w.first, w.none);
@@ -165,8 +160,7 @@ fn store_static(
 ) -> Gone
     ensures after { λ r.
         let before = lent (now (frames .entry)) (now (objects .entry)) (now (statics .entry)) in
-        let after = lent (now (frames .exit)) (now (objects .exit)) (now (statics .exit)) in
-        ⌜ done r after ≡ sputDone (now (t .entry)) before s ⌝ }
+        ⌜ done r (lent (now (frames .exit)) (now (objects .exit)) (now (statics .exit))) ≡ sputDone (now (t .entry)) before s ⌝ }
 {
     let w = site::wanted(s);
     let x = store::register_at(frames, s.top, w.first, w.none);
@@ -194,8 +188,7 @@ fn classes(
 ) -> Gone
     ensures after { λ r.
         let before = lent (now (frames .entry)) (now (objects .entry)) (now (statics .entry)) in
-        let after = lent (now (frames .exit)) (now (objects .exit)) (now (statics .exit)) in
-        ⌜ done r after ≡ classDone (now (t .entry)) before s ⌝ }
+        ⌜ done r (lent (now (frames .exit)) (now (objects .exit)) (now (statics .exit))) ≡ classDone (now (t .entry)) before s ⌝ }
 {
     let w = site::wanted(s);
     let x = store::register_at(frames, s.top, w.first, w.none);
@@ -223,8 +216,7 @@ fn plain(
 ) -> Gone
     ensures after { λ r.
         let before = lent (now (frames .entry)) (now (objects .entry)) (now (statics .entry)) in
-        let after = lent (now (frames .exit)) (now (objects .exit)) (now (statics .exit)) in
-        ⌜ done r after ≡ plainDone (now (t .entry)) before s ⌝ }
+        ⌜ done r (lent (now (frames .exit)) (now (objects .exit)) (now (statics .exit))) ≡ plainDone (now (t .entry)) before s ⌝ }
 {
     let w = site::wanted(s);
     let x = store::register_at(frames, s.top, w.first, w.none);
@@ -252,8 +244,7 @@ fn leave(
 ) -> Gone
     ensures after { λ r.
         let before = lent (now (frames .entry)) (now (objects .entry)) (now (statics .entry)) in
-        let after = lent (now (frames .exit)) (now (objects .exit)) (now (statics .exit)) in
-        ⌜ done r after ≡ leaveDone (now (t .entry)) before s ⌝ }
+        ⌜ done r (lent (now (frames .exit)) (now (objects .exit)) (now (statics .exit))) ≡ leaveDone (now (t .entry)) before s ⌝ }
 {
     site::left(s)
 }
@@ -268,8 +259,7 @@ fn from_class(
 ) -> Gone
     ensures after { λ r.
         let before = lent (now (frames .entry)) (now (objects .entry)) (now (statics .entry)) in
-        let after = lent (now (frames .exit)) (now (objects .exit)) (now (statics .exit)) in
-        ⌜ done r after ≡ fromClass (now (t .entry)) before s ⌝ }
+        ⌜ done r (lent (now (frames .exit)) (now (objects .exit)) (now (statics .exit))) ≡ fromClass (now (t .entry)) before s ⌝ }
 {
     if site::is_class(s) {
         classes(t, frames, objects, statics, s)
@@ -287,8 +277,7 @@ fn from_leaving(
 ) -> Gone
     ensures after { λ r.
         let before = lent (now (frames .entry)) (now (objects .entry)) (now (statics .entry)) in
-        let after = lent (now (frames .exit)) (now (objects .exit)) (now (statics .exit)) in
-        ⌜ done r after ≡ fromLeaving (now (t .entry)) before s ⌝ }
+        ⌜ done r (lent (now (frames .exit)) (now (objects .exit)) (now (statics .exit))) ≡ fromLeaving (now (t .entry)) before s ⌝ }
 {
     if site::leaves(s) {
         leave(t, frames, objects, statics, s)
@@ -306,8 +295,7 @@ fn from_sput(
 ) -> Gone
     ensures after { λ r.
         let before = lent (now (frames .entry)) (now (objects .entry)) (now (statics .entry)) in
-        let after = lent (now (frames .exit)) (now (objects .exit)) (now (statics .exit)) in
-        ⌜ done r after ≡ fromSput (now (t .entry)) before s ⌝ }
+        ⌜ done r (lent (now (frames .exit)) (now (objects .exit)) (now (statics .exit))) ≡ fromSput (now (t .entry)) before s ⌝ }
 {
     if site::is_sput(s) {
         store_static(t, frames, objects, statics, s)
@@ -325,8 +313,7 @@ fn from_sget(
 ) -> Gone
     ensures after { λ r.
         let before = lent (now (frames .entry)) (now (objects .entry)) (now (statics .entry)) in
-        let after = lent (now (frames .exit)) (now (objects .exit)) (now (statics .exit)) in
-        ⌜ done r after ≡ fromSget (now (t .entry)) before s ⌝ }
+        ⌜ done r (lent (now (frames .exit)) (now (objects .exit)) (now (statics .exit))) ≡ fromSget (now (t .entry)) before s ⌝ }
 {
     if site::is_sget(s) {
         get_static(t, frames, objects, statics, s)
@@ -344,8 +331,7 @@ fn from_iput(
 ) -> Gone
     ensures after { λ r.
         let before = lent (now (frames .entry)) (now (objects .entry)) (now (statics .entry)) in
-        let after = lent (now (frames .exit)) (now (objects .exit)) (now (statics .exit)) in
-        ⌜ done r after ≡ fromIput (now (t .entry)) before s ⌝ }
+        ⌜ done r (lent (now (frames .exit)) (now (objects .exit)) (now (statics .exit))) ≡ fromIput (now (t .entry)) before s ⌝ }
 {
     if site::is_iput(s) {
         put_field(t, frames, objects, statics, s)
@@ -363,8 +349,7 @@ fn from_iget(
 ) -> Gone
     ensures after { λ r.
         let before = lent (now (frames .entry)) (now (objects .entry)) (now (statics .entry)) in
-        let after = lent (now (frames .exit)) (now (objects .exit)) (now (statics .exit)) in
-        ⌜ done r after ≡ fromIget (now (t .entry)) before s ⌝ }
+        ⌜ done r (lent (now (frames .exit)) (now (objects .exit)) (now (statics .exit))) ≡ fromIget (now (t .entry)) before s ⌝ }
 {
     if site::is_iget(s) {
         get_field(t, frames, objects, statics, s)
@@ -382,8 +367,7 @@ fn from_branch(
 ) -> Gone
     ensures after { λ r.
         let before = lent (now (frames .entry)) (now (objects .entry)) (now (statics .entry)) in
-        let after = lent (now (frames .exit)) (now (objects .exit)) (now (statics .exit)) in
-        ⌜ done r after ≡ fromBranch (now (t .entry)) before s ⌝ }
+        ⌜ done r (lent (now (frames .exit)) (now (objects .exit)) (now (statics .exit))) ≡ fromBranch (now (t .entry)) before s ⌝ }
 {
     if site::is_branch(s) {
         branch(t, frames, objects, statics, s)
@@ -402,8 +386,7 @@ pub fn perform(
 ) -> Gone
     ensures after { λ r.
         let before = lent (now (frames .entry)) (now (objects .entry)) (now (statics .entry)) in
-        let after = lent (now (frames .exit)) (now (objects .exit)) (now (statics .exit)) in
-        ⌜ done r after ≡ performed (now (t .entry)) before s ⌝ }
+        ⌜ done r (lent (now (frames .exit)) (now (objects .exit)) (now (statics .exit))) ≡ performed (now (t .entry)) before s ⌝ }
 {
     if site::is_binop(s) {
         binop(t, frames, objects, statics, s)
