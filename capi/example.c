@@ -1,5 +1,5 @@
-/* A grading program's use of the library: reads panels, checks claims about one, prints the verdicts and the calls, and runs panels for
- * some steps and to their end. The sample and its claim are document 01's. */
+/* A grading program's use of the library: reads panels, checks claims about one, prints the verdicts and the calls, writes a claim, and runs
+ * panels for some steps and to their end. The sample and its claim are document 01's. */
 #include <inttypes.h>
 #include <stdio.h>
 #include <string.h>
@@ -77,11 +77,11 @@ static uint64_t read_panel(const char *panel)
 }
 
 /* The number of the verdict on a claim about the sample: the panel may be locked if it is HUDZMOKE_ACCEPTED. */
-static uint64_t check(const char *text)
+static uint64_t check_bytes(const uint8_t *text, size_t length)
 {
     uint8_t memory[HUDZMOKE_MEMORY];
     uint64_t answer[HUDZMOKE_ANSWER];
-    uint64_t number = hudzmoke_check((const uint8_t *)sample, strlen(sample), (const uint8_t *)text, strlen(text),
+    uint64_t number = hudzmoke_check((const uint8_t *)sample, strlen(sample), text, length,
                                      memory, sizeof memory, answer, HUDZMOKE_ANSWER);
     switch (number) {
     case HUDZMOKE_ACCEPTED:
@@ -96,6 +96,25 @@ static uint64_t check(const char *text)
         printf("refused: number %" PRIu64 ", line %" PRIu64 "\n", number, answer[1]);
     }
     return number;
+}
+
+static uint64_t check(const char *text)
+{
+    return check_bytes((const uint8_t *)text, strlen(text));
+}
+
+/* The number of a claim about the sample that is written to so many bytes of memory; it is checked at once. */
+static uint64_t write_claim(size_t length)
+{
+    static uint8_t text[HUDZMOKE_CLAIM];
+    uint64_t answer[HUDZMOKE_ANSWER];
+    uint64_t number = hudzmoke_write_claim((const uint8_t *)sample, strlen(sample), text, length, answer, HUDZMOKE_ANSWER);
+    if (number != HUDZMOKE_WRITTEN) {
+        printf("not written: number %" PRIu64 ", line %" PRIu64 "\n", number, answer[1]);
+        return number;
+    }
+    printf("written, bytes: %" PRIu64 "\n", answer[1]);
+    return check_bytes(text, answer[1]) == HUDZMOKE_ACCEPTED ? number : HUDZMOKE_VIOLATED;
 }
 
 static void print_value(const char *name, unsigned place, hudzmoke_value v)
@@ -144,8 +163,10 @@ int main(void)
     int refused = read_panel(own_superclass) == HUDZMOKE_PROGRAM_BAD_VALUE;
     int accepted = check(claim) == HUDZMOKE_ACCEPTED;
     int violated = check(false_claim) == HUDZMOKE_VIOLATED;
+    int written = write_claim(HUDZMOKE_CLAIM) == HUDZMOKE_WRITTEN;
+    int short_of = write_claim(200) == HUDZMOKE_SHORT;
     int stepped = step(sample, 2, 1, 0, 0) == HUDZMOKE_STEPS_MADE;
     int ended = step(sample, 1000, 1, 0, 0) == HUDZMOKE_DONE;
     int stored = step(storing, 5, 2, 1, 1) == HUDZMOKE_STEPS_MADE;
-    return read && refused && accepted && violated && stepped && ended && stored ? 0 : 1;
+    return read && refused && accepted && violated && written && short_of && stepped && ended && stored ? 0 : 1;
 }

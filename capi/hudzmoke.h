@@ -1,4 +1,4 @@
-/* The checker and the stepper of panel programs for programs in C and C++: link target/staticlib/libcapi.a (`rt staticlib capi`).
+/* The checker, the stepper and the claim writer of panel programs for programs in C and C++: link target/staticlib/libcapi.a (`rt staticlib capi`).
  *
  * Every function may be called with any bytes: it tests for itself all that it relies on, ends, uses no heap, keeps nothing between calls
  * and may be called from several threads at once. docs/FORMATS.md says what texts, answers and memory mean.
@@ -8,7 +8,7 @@
  *   may be null.
  * - Slices that are lent for writing (frames, objects, statics, memory, answer) overlap neither each other nor a text. Buffers that
  *   overlap are the caller's fault: nothing is promised then of any of them.
- * - There is stack enough: 100 KB for hudzmoke_check, 20 KB for the others (measured).
+ * - There is stack enough: 100 KB for hudzmoke_check and hudzmoke_write_claim, 20 KB for the others (measured).
  */
 #ifndef HUDZMOKE_H
 #define HUDZMOKE_H
@@ -40,13 +40,14 @@ typedef struct {
     hudzmoke_value cells[16];
 } hudzmoke_object;
 
-/* The least lengths to lend, in elements. With fewer frames, objects, statics or bytes the number is HUDZMOKE_SHORT, with fewer words the
- * answer is not written. */
+/* The least lengths to lend, in elements; HUDZMOKE_CLAIM is the length of the longest claim that is written. With fewer frames, objects,
+ * statics or bytes the number is HUDZMOKE_SHORT, with fewer words the answer is not written. */
 enum {
     HUDZMOKE_FRAMES = 32,
     HUDZMOKE_OBJECTS = 256,
     HUDZMOKE_STATICS = 16,
     HUDZMOKE_MEMORY = 24576,
+    HUDZMOKE_CLAIM = 165936,
     HUDZMOKE_ANSWER = 5
 };
 
@@ -73,7 +74,7 @@ enum {
     HUDZMOKE_FULL_STORE = 20, /* new-instance at 256 objects */
     HUDZMOKE_FULL_STACK = 21, /* a call without fault at 32 frames */
     HUDZMOKE_STEPS_MADE = 22, /* the steps asked for are made, and the run has not ended */
-    HUDZMOKE_SHORT = 23,      /* too little memory is lent; it is untouched */
+    HUDZMOKE_SHORT = 23,      /* too little memory is lent, or less than a text has; it is untouched */
     HUDZMOKE_OUTSIDE = 24,    /* an address outside its method */
 
     /* The run has ended. */
@@ -83,6 +84,8 @@ enum {
     /* The claim is judged. */
     HUDZMOKE_ACCEPTED = 34, /* it meets every flow rule */
     HUDZMOKE_VIOLATED = 35, /* it breaks one */
+
+    HUDZMOKE_WRITTEN = 36, /* a text is written */
 
     /* The run has ended by a fault, 1 to 8 of document 01: 40 and its number. */
     HUDZMOKE_FAULT = 40,
@@ -107,6 +110,13 @@ uint64_t hudzmoke_check(const uint8_t *program, size_t program_length,
                         const uint8_t *claim, size_t claim_length,
                         uint8_t *memory, size_t memory_length,
                         uint64_t *answer, size_t answer_length);
+
+/* Writes a claim about a program: the least one that hudzmoke_check accepts. The number of what came of it. The answer's words: that number;
+ * the text's length or the line; 0; 0; 0. The text stands at the front of memory, and nothing past it is touched; nothing at all if the
+ * program is refused or memory is shorter than the text. No text has more bytes than HUDZMOKE_CLAIM. */
+uint64_t hudzmoke_write_claim(const uint8_t *program, size_t program_length,
+                              uint8_t *memory, size_t memory_length,
+                              uint64_t *answer, size_t answer_length);
 
 /* Runs a program for at most n steps (more than 1,000,000 count as that); the number of what became of it. The answer's words: that number;
  * the steps made, or the line; the pending object and 1, or 0; open frames; objects. Words without a value are 0. The slices hold the state

@@ -5,7 +5,7 @@
 //! of the program once, and [`rules`] are asked at every address.
 
 mod rules;
-mod sets;
+pub(crate) mod sets;
 
 use crate::claim::{self, Claim, ZERO};
 use crate::program::Program;

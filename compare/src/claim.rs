@@ -1,9 +1,10 @@
 //! A claim: a mask for everything a run can put a value into.
 //!
 //! [`read`] makes it from a text, or gives the refusal (9 to 13); [`write`]
-//! gives its frames and its text.
+//! gives its frames and its text; [`order`] compares two of one program.
 
 pub(crate) mod digits;
+pub mod order;
 pub mod read;
 pub mod write;
 
@@ -29,8 +30,8 @@ pub type ByClass = [u64; 64];
 
 #[derive(Clone, Debug, PartialEq, Eq)]
 pub struct Claim {
-    states: Vec<u64>,
-    rows: Vec<Rows>,
+    pub(crate) states: Vec<u64>,
+    pub(crate) rows: Vec<Rows>,
     pub fields: Vec<ByClass>,
     pub statics: Vec<u64>,
     /// What each method returns.
@@ -42,9 +43,9 @@ pub struct Claim {
 /// Where a method's states lie: rows of this width, one for each address. A
 /// row has the masks of the registers, then that of the result.
 #[derive(Clone, Copy, Debug, PartialEq, Eq)]
-struct Rows {
-    start: usize,
-    width: usize,
+pub(crate) struct Rows {
+    pub start: usize,
+    pub width: usize,
 }
 
 impl Claim {

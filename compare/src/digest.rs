@@ -2,6 +2,7 @@
 
 use crate::machine::Answer;
 use crate::program::Program;
+use crate::writer::Written;
 use crate::Refusal;
 
 const MODULUS: u64 = 4_294_967_291;
@@ -37,12 +38,21 @@ pub fn describe_steps(answer: &Answer, memory: [&[u64]; 3]) -> String {
     format!("{number:02x} {steps:08x} {pending:03x} {frames:02x} {objects:03x} {sum:08x}")
 }
 
+/// The writer's answer: `written` and the text's length, or `refused`, number
+/// and line.
+pub fn describe_written(answer: &Written) -> String {
+    match answer {
+        Written::Text(length) => format!("written {length:08x}"),
+        Written::Refused(refusal) => format!("refused {:02x} {:08x}", refusal.number, refusal.line),
+    }
+}
+
 /// A checksum over the bytes of the program's frames, in order.
 pub fn checksum(program: &Program) -> u32 {
     sum(program.frames().concat().into_iter().map(u64::from))
 }
 
-/// A checksum over the bytes of the checker's memory.
+/// A checksum over the bytes of the checker's or the writer's memory.
 pub fn memory_sum(memory: &[u8]) -> u32 {
     sum(memory.iter().copied().map(u64::from))
 }
@@ -88,5 +98,8 @@ mod tests {
     #[test]
     fn refusals_print_number_and_line() {
         assert_eq!(describe(&Err(Refusal::new(4, 61))), "refused 04 0000003d");
+        let refused = Written::Refused(Refusal::new(23, 0));
+        assert_eq!(describe_written(&refused), "refused 17 00000000");
+        assert_eq!(describe_written(&Written::Text(165_936)), "written 00028830");
     }
 }

@@ -4,8 +4,9 @@
 //!   ([`pool`]) and of random [`programs`] ([`crowds`] among them), each a
 //!   [`ground`] to be changed ([`damage`], [`limits`]), with [`claims`] and
 //!   [`lengths`];
-//! * [`lent`] is memory with guards, [`left`] what the calls leave in it, and
-//!   [`differ`] where two of them differ;
+//! * [`lent`] is memory with guards, [`left`] what the calls leave in it,
+//!   [`differ`] where two of them differ, and [`written`] what holds of a claim
+//!   that was written;
 //! * [`watch`] and [`table`], with its [`lines`], say what was reached.
 //!
 //! Nothing here calls another implementation.
@@ -27,10 +28,11 @@ pub mod source;
 pub mod table;
 pub mod watch;
 pub mod ways;
+pub mod written;
 
 use lengths::Lengths;
 
-/// One call of the reader, the stepper and the checker.
+/// One call of the reader, the stepper, the checker and the writer.
 #[derive(Clone, Debug, PartialEq, Eq)]
 pub struct Case {
     pub program: Vec<u8>,

@@ -23,7 +23,7 @@ use crate::random::Random;
 use crate::Refusal;
 use std::collections::HashSet;
 
-pub use largest::{calling_program, storing_program};
+pub use largest::{calling_program, most_calls, storing_program};
 pub use random_calls::random_calls;
 
 /// A call of the checker, and what its maker knows of the verdict. The

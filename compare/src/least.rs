@@ -21,15 +21,18 @@ pub fn least(program: &Program) -> Claim {
 /// The least claim that is accepted and has all bits of this one.
 pub fn close(program: &Program, mut claim: Claim) -> Claim {
     everywhere(program).iter().for_each(|demand| demand.meet(&mut claim));
+    let mut places: Vec<(usize, usize)> = addresses(program).collect();
     let mut grows = true;
     while grows {
         grows = false;
-        for (method, address) in addresses(program) {
+        for &(method, address) in &places {
             for demand in at_address(program, &claim, method, address) {
                 grows |= !demand.is_met(&claim);
                 demand.meet(&mut claim);
             }
         }
+        // What flows backward gets far in every other round.
+        places.reverse();
     }
     claim
 }

@@ -11,12 +11,14 @@
 //!   tool prints of that;
 //! * [`least`]: the least claim that keeps them, and [`inside`], whether a run
 //!   stays inside a claim;
+//! * [`writer`]: the least claim again, fast, as a text in lent memory;
 //! * [`digest`]: an answer as one printed line;
 //! * [`generate`]: the texts that both readers answer, with [`random`] numbers
 //!   where they are to be many;
 //! * [`generate_steps`]: the runs that both steppers make, and [`coverage`],
 //!   what they reach;
 //! * [`generate_claims`]: the claims that both checkers judge;
+//! * [`generate_writes`]: the programs whose claims both write;
 //! * [`fuzz`]: random and damaged inputs for both, and what is compared.
 
 #![forbid(unsafe_code)]
@@ -31,6 +33,7 @@ pub mod fuzz;
 pub mod generate;
 pub mod generate_claims;
 pub mod generate_steps;
+pub mod generate_writes;
 pub mod inside;
 pub mod least;
 pub mod machine;
@@ -40,6 +43,7 @@ pub mod random;
 pub mod reader;
 pub mod report;
 pub mod values;
+pub mod writer;
 
 /// Why a text is refused: a number, and the line from 1 (0 for the length).
 ///
@@ -59,8 +63,8 @@ pub mod values;
 /// 12. a frame is not the one due, one too many, or missing;
 /// 13. a mask has a bit that is not allowed.
 ///
-/// And of the memory lent to the stepper or the checker: 23, there is too
-/// little.
+/// And of the memory lent to the stepper, the checker or the writer: 23, there
+/// is too little.
 #[derive(Clone, Copy, Debug, PartialEq, Eq, PartialOrd, Ord)]
 pub struct Refusal {
     pub number: u8,

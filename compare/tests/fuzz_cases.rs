@@ -5,7 +5,8 @@ use compare::fuzz::differ::follow;
 use compare::fuzz::left::{Expected, Left};
 use compare::fuzz::lines::{all, Line};
 use compare::fuzz::source::Source;
-use compare::fuzz::table::Table;
+use compare::fuzz::table::{Found, Table};
+use compare::fuzz::written::{accepted, within, written, Checked};
 use compare::fuzz::Case;
 
 /// Cases whose table is looked at.
@@ -16,8 +17,15 @@ const LONG: u64 = 1_000_000;
 
 fn add(table: &mut Table, case: &Case) {
     let expected = Expected::of(case, Left::before(case));
-    let followed = follow(case, &expected, &expected.left).expect("a run inside the claim");
-    table.add_case(case, &expected, followed);
+    let left = &expected.left;
+    let checked = written(&expected, left).map(|claim| Checked::of(&case.program, claim));
+    let calls = checked.map_or(Ok(0), |checked| accepted(&checked, &checked));
+    let found = Found {
+        followed: follow(case, &expected, left).expect("a run inside the claim"),
+        written_calls: calls.expect("the written claim is accepted"),
+        is_least: within(case, &expected, left).expect("the written claim is the least"),
+    };
+    table.add_case(case, &expected, &found);
 }
 
 #[test]

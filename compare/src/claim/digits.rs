@@ -25,9 +25,7 @@ fn eight(digits: [u8; 8]) -> (u64, bool) {
     let values = (bytes & each(0x0f)) + 9 * letters;
     // Written again, the values give the same bytes only if these are digits;
     // the letters after f would have values above 15.
-    let above_nine = (values + each(0x76)) >> 7 & each(1);
-    let again = values + each(b'0') + u64::from(b'a' - b'0' - 10) * above_nine;
-    (packed(values), again == bytes && values & each(0xf0) == 0)
+    (packed(values), written(values) == bytes && values & each(0xf0) == 0)
 }
 
 /// Eight values of a half byte each, moved together.
@@ -36,6 +34,31 @@ fn packed(values: u64) -> u64 {
     let bytes = (values | values >> 4) & 0x00ff_00ff_00ff_00ff;
     let pairs = (bytes | bytes >> 8) & 0x0000_ffff_0000_ffff;
     (pairs | pairs >> 16) & 0xffff_ffff
+}
+
+/// The sixteen digits of a mask.
+#[inline]
+pub fn of(mask: u64) -> [u8; 16] {
+    let [high, low] = [mask >> 32, mask & 0xffff_ffff].map(|half| written(spread(half)));
+    let mut digits = [0; 16];
+    digits[..8].copy_from_slice(&high.to_be_bytes());
+    digits[8..].copy_from_slice(&low.to_be_bytes());
+    digits
+}
+
+/// The digits of eight values of a half byte each.
+#[inline]
+fn written(values: u64) -> u64 {
+    let above_nine = (values + each(0x76)) >> 7 & each(1);
+    values + each(b'0') + u64::from(b'a' - b'0' - 10) * above_nine
+}
+
+/// The eight half bytes of four bytes, one a byte: [`packed`] the other way.
+#[inline]
+fn spread(bytes: u64) -> u64 {
+    let pairs = (bytes | bytes << 16) & 0x0000_ffff_0000_ffff;
+    let bytes = (pairs | pairs << 8) & 0x00ff_00ff_00ff_00ff;
+    (bytes | bytes << 4) & each(0x0f)
 }
 
 /// Whether these two digits are those of this byte.
@@ -73,6 +96,19 @@ mod tests {
                         .filter(|_| allowed)
                         .map(|text| u64::from_str_radix(text, 16).unwrap());
                     assert_eq!(mask_of(&text), value, "{byte:02x} at {place}");
+                }
+            }
+        }
+    }
+
+    /// Every value of a byte at every place, beside others.
+    #[test]
+    fn a_mask_has_its_digits() {
+        for place in (0..64).step_by(8) {
+            for byte in 0..=255u64 {
+                for beside in [0, u64::MAX, 0x0123_4567_89ab_cdef] {
+                    let mask = beside & !(0xff << place) | byte << place;
+                    assert_eq!(of(mask).as_slice(), format!("{mask:016x}").as_bytes());
                 }
             }
         }

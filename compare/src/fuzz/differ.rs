@@ -28,17 +28,19 @@ pub fn difference(expected: &Left, got: &Left) -> Option<Difference> {
         .or_else(|| place("answer of the reader", &expected.read_answer, &got.read_answer))
         .or_else(|| place("answer of the stepper", &expected.step_answer, &got.step_answer))
         .or_else(|| place("answer of the checker", &expected.check_answer, &got.check_answer))
+        .or_else(|| place("answer of the writer", &expected.write_answer, &got.write_answer))
         .or_else(|| place("frames", &expected.frames, &got.frames))
         .or_else(|| place("objects", &expected.objects, &got.objects))
         .or_else(|| place("statics", &expected.statics, &got.statics))
         .or_else(|| place("memory of the checker", &expected.memory, &got.memory))
+        .or_else(|| place("memory of the writer", &expected.text, &got.text))
         .or_else(|| place("program text", &expected.program, &got.program))
         .or_else(|| place("claim text", &expected.claim, &got.claim))
 }
 
 fn numbers(expected: &Left, got: &Left) -> Option<Difference> {
-    let names = ["reader", "stepper", "checker"];
-    let which = (0..3).find(|&i| expected.numbers[i] != got.numbers[i])?;
+    let names = ["reader", "stepper", "checker", "writer"];
+    let which = (0..names.len()).find(|&i| expected.numbers[i] != got.numbers[i])?;
     Some(Difference {
         what: format!("number given by the {}", names[which]),
         expected: expected.numbers[which].to_string(),

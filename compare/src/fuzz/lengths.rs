@@ -2,6 +2,7 @@
 
 use super::ground;
 use crate::checker::LEAST_MEMORY;
+use crate::generate_writes::MOST_LENT;
 use crate::machine::structs::LEAST;
 use crate::machine::MAX_STEPS;
 use crate::random::Random;
@@ -15,9 +16,12 @@ pub struct Lengths {
     pub statics: usize,
     /// The checker's bytes.
     pub memory: usize,
+    /// The writer's bytes.
+    pub text: usize,
     pub read_answer: usize,
     pub step_answer: usize,
     pub check_answer: usize,
+    pub write_answer: usize,
 }
 
 /// The words that are written of an answer.
@@ -53,7 +57,9 @@ pub fn tame(random: &mut Random, text: &[u8], n: u64) -> u64 {
     n
 }
 
-pub fn lengths(random: &mut Random) -> Lengths {
+/// Lengths for a program whose claims have texts of this length; none if it is
+/// refused.
+pub fn lengths(random: &mut Random, text: Option<usize>) -> Lengths {
     let more = [6, 9, 12];
     let mut stepper = [0, 1, 2].map(|which| LEAST[which] + one_of(random, more[which]));
     match random.below(16) {
@@ -71,14 +77,46 @@ pub fn lengths(random: &mut Random) -> Lengths {
         1 if random.once_in(20) => 65_536,
         _ => LEAST_MEMORY + one_of(random, 40),
     };
-    let mut answer = || match random.below(8) {
+    let [read_answer, step_answer, check_answer, write_answer] = [(); 4].map(|_| answer(random));
+    let [frames, objects, statics] = stepper;
+    let text = writers(random, text);
+    Lengths {
+        frames,
+        objects,
+        statics,
+        memory,
+        text,
+        read_answer,
+        step_answer,
+        check_answer,
+        write_answer,
+    }
+}
+
+/// Words of an answer.
+fn answer(random: &mut Random) -> usize {
+    match random.below(8) {
         0 => random.below(ANSWER),
         1..=2 => ANSWER + 1 + random.below(4),
         _ => ANSWER,
+    }
+}
+
+/// Bytes for the writer of a text of this length; of none if the program is
+/// refused.
+fn writers(random: &mut Random, text: Option<usize>) -> usize {
+    let Some(length) = text else {
+        return random.pick(&[0, 0, 1, 201, 300, 2_000]);
     };
-    let [read_answer, step_answer, check_answer] = [answer(), answer(), answer()];
-    let [frames, objects, statics] = stepper;
-    Lengths { frames, objects, statics, memory, read_answer, step_answer, check_answer }
+    match random.below(16) {
+        0 => 0,
+        1 => length - 1,
+        2 => less(random, length),
+        3 => length + 1,
+        4..=6 => length + random.within(2..=40),
+        7 if random.once_in(40) => MOST_LENT,
+        _ => length,
+    }
 }
 
 /// Nothing in one of two cases, else up to so many.
@@ -116,12 +154,27 @@ mod tests {
     #[test]
     fn answers_of_none_to_nine_words_are_lent() {
         let mut random = Random::new(5);
-        let lent: Vec<Lengths> = (0..2_000).map(|_| lengths(&mut random)).collect();
-        let answers: [fn(&Lengths) -> usize; 3] =
-            [|lent| lent.read_answer, |lent| lent.step_answer, |lent| lent.check_answer];
+        let lent: Vec<Lengths> = (0..2_000).map(|_| lengths(&mut random, None)).collect();
+        let answers: [fn(&Lengths) -> usize; 4] = [
+            |lent| lent.read_answer,
+            |lent| lent.step_answer,
+            |lent| lent.check_answer,
+            |lent| lent.write_answer,
+        ];
         for answer in answers {
             let words: BTreeSet<usize> = lent.iter().map(answer).collect();
             assert!(words.into_iter().eq(0..=9));
         }
+    }
+
+    #[test]
+    fn the_writer_gets_none_less_just_enough_and_more() {
+        let mut random = Random::new(6);
+        let lent: BTreeSet<usize> =
+            (0..4_000).map(|_| lengths(&mut random, Some(1_000)).text).collect();
+        assert!([0, 1, 999, 1_000, 1_001, 1_040, MOST_LENT].iter().all(|l| lent.contains(l)));
+        assert!(lent.iter().any(|length| (2..998).contains(length)));
+        let lent: BTreeSet<usize> = (0..100).map(|_| lengths(&mut random, None).text).collect();
+        assert!(lent.len() == 5 && lent.contains(&0), "{lent:?}");
     }
 }

@@ -32,6 +32,16 @@ pub enum Line {
     LongestList,
     Followed,
     StepsFollowed,
+    Written,
+    /// The writer's refusals.
+    Unwritten(u8),
+    /// No memory for the writer, of a program that is read or refused.
+    NoText(bool),
+    LongestText,
+    /// Calls that the checker lists of written claims.
+    WrittenCalls,
+    /// Accepted claims that are the written one, and that are greater.
+    Least(bool),
 }
 
 #[derive(Clone, Copy, Debug, PartialEq, Eq, Hash)]
@@ -67,9 +77,11 @@ pub enum Part {
     Objects,
     Statics,
     Memory,
+    Text,
     ReadAnswer,
     StepAnswer,
     CheckAnswer,
+    WriteAnswer,
 }
 
 #[derive(Clone, Copy, Debug, PartialEq, Eq, Hash)]
@@ -100,7 +112,9 @@ pub fn all() -> Vec<Line> {
         [Zero, One, Two, Few, Many, Most, Above, Highest]
     };
     all.extend(steps.map(Steps));
-    for part in [Frames, Objects, Statics, Memory, ReadAnswer, StepAnswer, CheckAnswer] {
+    let memory = [Frames, Objects, Statics, Memory, Text];
+    let answers = [ReadAnswer, StepAnswer, CheckAnswer, WriteAnswer];
+    for part in memory.into_iter().chain(answers) {
         all.extend([Size::Smaller, Size::Exact, Size::Larger].map(|size| Length(part, size)));
     }
     all.extend((0..=6).map(Read));
@@ -114,6 +128,9 @@ pub fn all() -> Vec<Line> {
     all.extend((1..=6).chain(9..=13).chain([23]).map(Refused));
     all.extend((0..=10).map(Violated));
     all.extend([Accepted, Calls, LongestList, Followed, StepsFollowed]);
+    all.extend((1..=6).chain([23]).map(Unwritten));
+    all.extend([false, true].map(NoText));
+    all.extend([Written, LongestText, WrittenCalls, Least(true), Least(false)]);
     all
 }
 

@@ -28,6 +28,14 @@ impl Line {
             Line::LongestList => "calls in the longest list".to_string(),
             Line::Followed => "accepted claims followed".to_string(),
             Line::StepsFollowed => "steps followed in masks and lists".to_string(),
+            Line::Unwritten(number) => format!("writer: {number}"),
+            Line::NoText(false) => "writer: no memory, the program is refused".to_string(),
+            Line::NoText(true) => "writer: no memory, the program is read".to_string(),
+            Line::Written => "writer: written, accepted by both checkers".to_string(),
+            Line::LongestText => "bytes of the longest text written".to_string(),
+            Line::WrittenCalls => "calls in lists of written claims".to_string(),
+            Line::Least(true) => "accepted claims that are the written one".to_string(),
+            Line::Least(false) => "accepted claims above the written one".to_string(),
         }
     }
 }
@@ -66,9 +74,11 @@ impl Part {
             Part::Objects => "objects lent:",
             Part::Statics => "statics lent:",
             Part::Memory => "memory of the checker lent:",
+            Part::Text => "memory of the writer lent:",
             Part::ReadAnswer => "answer of the reader lent:",
             Part::StepAnswer => "answer of the stepper lent:",
             Part::CheckAnswer => "answer of the checker lent:",
+            Part::WriteAnswer => "answer of the writer lent:",
         }
     }
 }

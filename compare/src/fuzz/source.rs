@@ -11,6 +11,8 @@ use super::ways::{pick, CLAIMS, PROGRAMS};
 use super::Case;
 use crate::generate::mutations::change_values;
 use crate::random::Random;
+use crate::reader::read;
+use crate::writer::text_length;
 
 /// So many cases have their programs in common.
 const BLOCK: u64 = 64;
@@ -65,10 +67,18 @@ fn make(random: &mut Random, grounds: &[Ground], pool: &Pool) -> Case {
             claim = of_suite;
             program
         }
+        "of the writer's suite" | "of the writer's suite, largest" => {
+            let largest = made[0] != "of the writer's suite";
+            let [program, least] = pool.write(random, largest);
+            made[1] = "of the writer's suite";
+            claim = least;
+            program
+        }
         way => program(random, ground, way),
     };
     let n = tame(random, &program, n);
-    let (lent, follow, salt) = (lengths(random), followed(random), random.next_u64());
+    let text = read(&program).ok().map(|program| text_length(&program));
+    let (lent, follow, salt) = (lengths(random, text), followed(random), random.next_u64());
     Case { program, claim, n, lent, salt, follow, made }
 }
 

@@ -8,7 +8,19 @@ use super::Case;
 use crate::checker::{Verdict, LEAST_MEMORY};
 use crate::machine::structs::LEAST;
 use crate::machine::{Answer, MAX_STEPS};
+use crate::writer::{text_length, Written};
 use std::collections::HashMap;
+
+/// What was found of the claims of a case.
+#[derive(Clone, Debug, Default, PartialEq, Eq)]
+pub struct Found {
+    /// Steps followed of an accepted claim's run.
+    pub followed: Option<u64>,
+    /// Calls that both checkers list of the written claim.
+    pub written_calls: usize,
+    /// Whether an accepted claim is the written one.
+    pub is_least: Option<bool>,
+}
 
 #[derive(Default)]
 pub struct Table {
@@ -28,8 +40,8 @@ impl Table {
         self.counts.get(&line).copied().unwrap_or(0)
     }
 
-    /// Adds a case, with the steps followed of an accepted claim's run.
-    pub fn add_case(&mut self, case: &Case, expected: &Expected, followed: Option<u64>) {
+    /// Adds a case, with what was found of its claims.
+    pub fn add_case(&mut self, case: &Case, expected: &Expected, found: &Found) {
         self.one(Line::Cases);
         self.one(Line::Program(case.made[0]));
         self.one(Line::Claim(case.made[1]));
@@ -38,9 +50,18 @@ impl Table {
         self.add_lengths(&case.lent);
         self.add_answer(case, expected);
         self.add_verdict(&expected.verdict);
-        if let Some(steps) = followed {
+        self.add_written(case, expected);
+        self.add_found(found);
+    }
+
+    fn add_found(&mut self, found: &Found) {
+        if let Some(steps) = found.followed {
             self.one(Line::Followed);
             self.add(Line::StepsFollowed, steps);
+        }
+        self.add(Line::WrittenCalls, found.written_calls as u64);
+        if let Some(is_least) = found.is_least {
+            self.one(Line::Least(is_least));
         }
     }
 
@@ -53,6 +74,7 @@ impl Table {
             (Part::ReadAnswer, lent.read_answer, ANSWER),
             (Part::StepAnswer, lent.step_answer, ANSWER),
             (Part::CheckAnswer, lent.check_answer, ANSWER),
+            (Part::WriteAnswer, lent.write_answer, ANSWER),
         ];
         for (part, length, least) in parts {
             self.one(Line::Length(part, Size::of(length, least)));
@@ -99,10 +121,31 @@ impl Table {
             Verdict::Accepted(count) => {
                 self.one(Line::Accepted);
                 self.add(Line::Calls, count as u64);
-                let longest = self.counts.entry(Line::LongestList).or_default();
-                *longest = (*longest).max(count as u64);
+                self.at_least(Line::LongestList, count as u64);
             }
         }
+    }
+
+    fn add_written(&mut self, case: &Case, expected: &Expected) {
+        match expected.written {
+            Written::Refused(refusal) => self.one(Line::Unwritten(refusal.number)),
+            Written::Text(length) => {
+                self.one(Line::Written);
+                self.at_least(Line::LongestText, length as u64);
+            }
+        }
+        if let Some(program) = &expected.program {
+            let size = Size::of(case.lent.text, text_length(program));
+            self.one(Line::Length(Part::Text, size));
+        }
+        if case.lent.text == 0 {
+            self.one(Line::NoText(expected.program.is_some()));
+        }
+    }
+
+    fn at_least(&mut self, line: Line, count: u64) {
+        let most = self.counts.entry(line).or_default();
+        *most = count.max(*most);
     }
 
     /// The names of the lines that no case reached and one could have.

@@ -29,6 +29,8 @@ pub const PROGRAMS: &Ways = &[
     ("of the stepper's suite", 500),
     ("of the checker's suite", 600),
     ("of the checker's suite, largest", 10),
+    ("of the writer's suite", 300),
+    ("of the writer's suite, largest", 6),
 ];
 
 pub const CLAIMS: &Ways = &[
@@ -55,6 +57,7 @@ pub const CLAIMS: &Ways = &[
     ("too long", 16),
     // With the programs of that suite.
     ("of the checker's suite", 0),
+    ("of the writer's suite", 0),
 ];
 
 pub fn pick(random: &mut Random, ways: &Ways) -> &'static str {

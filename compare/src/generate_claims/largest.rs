@@ -82,7 +82,7 @@ pub fn calling_program() -> Program {
 }
 
 /// Calls of every virtual method at every address but the last of a method.
-fn most_calls() -> Program {
+pub fn most_calls() -> Program {
     let mut code = vec![invoke_virtual(9, 1, 0); LENGTH - 1];
     code.push(throw(0));
     let mut methods = vec![main_method(1, code.clone())];

@@ -17,7 +17,7 @@ answered number vs before =
     (set (set (set (set (set before 0 number) 1 (getD vs 0 0)) 2 (pendingWord vs)) 3 (getD vs 1 0)) 4 (getD vs 2 0))
     before
 
--- of a verdict, and of a reading: the number; up to three values, 0 where there are fewer; 0
+-- of a verdict, a reading, and a text that is written: the number; up to three values, 0 where there are fewer; 0
 abbrev pub verdictAnswered : ℕ → List ℕ → List ℕ → List ℕ
 verdictAnswered number vs before =
     pick (leb 5 (length before))

@@ -3,6 +3,7 @@
 use bounded::Outcome;
 use bounded::Pending;
 use machine::Fault;
+use output::Output;
 use turn::Halt;
 use verdict::Verdict;
 ghost use mathlib.Core.Path.{_≡_};
@@ -15,6 +16,7 @@ ghost use Rattle.machine.specs.State.{faultNumber};
 ghost use Rattle.turn.specs.Stop.{haltNumber};
 ghost use Rattle.bounded.specs.Step.{numberOf, valuesOf, pendingValues};
 ghost use Rattle.verdict.specs.Numbers.{numberOf as verdictNumber, valuesOf as verdictValues};
+ghost use Rattle.output.specs.Numbers.{numberOf as outputNumber, valuesOf as outputValues};
 ghost use Rattle.answer.specs.Words.{pendingWord, answered, verdictAnswered};
 
 // Document 01's number of a fault.
@@ -116,5 +118,17 @@ pub fn put_verdict(answer: &mut [u64], v: Verdict) -> u64
         } => put(answer, 35, rule as u64, method as u64, address as u64, 0),
         Verdict::Refused { number, line } => put(answer, number as u64, line as u64, 0, 0, 0),
         Verdict::Short => put(answer, 23, 0, 0, 0, 0),
+    }
+}
+
+// Writes what a call that writes a text answered as five words, and answers its number.
+pub fn put_output(answer: &mut [u64], o: Output) -> u64
+    ensures number { λ r. ⌜ r ≡ outputNumber o ⌝ }
+    ensures memory { λ r. ⌜ now (answer .exit) ≡ verdictAnswered (outputNumber o) (outputValues o) (now (answer .entry)) ⌝ }
+{
+    match o {
+        Output::Written(count) => put(answer, 36, count as u64, 0, 0, 0),
+        Output::Refused { number, line } => put(answer, number as u64, line as u64, 0, 0, 0),
+        Output::Short => put(answer, 23, 0, 0, 0, 0),
     }
 }

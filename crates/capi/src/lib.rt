@@ -5,9 +5,12 @@ use cells::Object;
 use cells::Value;
 ghost use mathlib.Core.Path.{_≡_};
 ghost use Prim.Native.Nat.{ℕ};
-ghost use lib.ListN.{length};
+ghost use lib.ListN.{length, take};
 ghost use Rattle.verdict.specs.declared.Verdict.the-variants.{Accepted};
 ghost use Rattle.verdict.specs.Numbers.{numberOf, valuesOf};
+ghost use Rattle.output.specs.declared.Output.the-variants.{Written};
+ghost use Rattle.output.specs.Numbers.{numberOf as outputNumber, valuesOf as outputValues};
+ghost use Rattle.output.specs.Written.{writingNumber, writingValues, memoryAfter as memoryWritten};
 ghost use Rattle.reader.specs.Read.{readProgram, readingNumber, readingValues};
 ghost use Rattle.bounded.specs.Step.{steppingNumber, steppingValues};
 ghost use Rattle.bounded.specs.Lent.{lending, framesLeft, objectsLeft, staticsLeft};
@@ -15,6 +18,7 @@ ghost use Rattle.answer.specs.Words.{answered, verdictAnswered};
 ghost use Rattle.calls.specs.Bytes.{callsIn};
 ghost use Rattle.checker.specs.Check.{checking, checkingNumber, checkingValues, memoryAfter};
 ghost use Rattle.checker.specs.Coverage.{Coverage};
+ghost use Rattle.writer.specs.Claimed.{writing, LeastFor};
 
 // Reads a program text: 0 where it is read, else the number of its refusal. Words 0 to 4 of the answer are that number, the line, and 0.
 #[no_mangle]
@@ -80,4 +84,25 @@ pub extern "C" fn hudzmoke_check(
 {
     let verdict = checker::check(program, claim, memory);
     answer::put_verdict(answer, verdict)
+}
+
+// Writes the text of the least accepted claim of a program: the number of what came of it. Words 0 to 4 of the answer are that number, the
+// text's length (or the line), and 0. The text stands at the front of memory.
+#[no_mangle]
+pub extern "C" fn hudzmoke_write_claim(program: &[u8], memory: &mut [u8], answer: &mut [u64]) -> u64
+    ensures number { λ r. ⌜ r ≡ writingNumber (writing (now (program .entry)) (length (now (memory .entry)))) ⌝ }
+    ensures answer { λ r.
+        let x = writing (now (program .entry)) (length (now (memory .entry))) in
+        ⌜ now (answer .exit) ≡ verdictAnswered (writingNumber x) (writingValues x) (now (answer .entry)) ⌝ }
+    ensures memory { λ r.
+        let x = writing (now (program .entry)) (length (now (memory .entry))) in
+        ⌜ now (memory .exit) ≡ memoryWritten x (now (memory .entry)) ⌝ }
+    ensures least { λ r.
+        let x = writing (now (program .entry)) (length (now (memory .entry))) in
+        ⌜ ((n : ℕ) → r ≡ outputNumber (Written n)
+        → writingValues x ≡ outputValues (Written n)
+        → LeastFor (now (program .entry)) (take n (now (memory .exit)))) ⌝ }
+{
+    let output = writer::write_claim(program, memory);
+    answer::put_output(answer, output)
 }

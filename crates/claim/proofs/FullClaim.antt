@@ -6,7 +6,10 @@ use lib.Dec.{ltb}
 use lib.IntN.{ℤ}
 use borrow.Author.Tests.{lt-ltb}
 use Rattle.instruction.specs.declared.Instruction.{Instruction}
-use Rattle.instruction.specs.declared.Instruction.the-variants.{Nop, Move, Const, Goto, If, IfZero, Binop, Unop, NewInstance, Iget, Iput, Sget, Sput, InvokeVirtual, InvokeStatic, MoveResult, MoveException, Return, ReturnVoid, Throw, InstanceOf, CheckCast}
+use Rattle.instruction.specs.declared.Instruction.the-variants.{Nop, Move, Const, Goto, If, IfZero, Binop, Unop}
+use Rattle.instruction.specs.declared.Instruction.the-variants.{NewInstance, Iget, Iput, Sget, Sput, InvokeVirtual, InvokeStatic}
+use Rattle.instruction.specs.declared.Instruction.the-variants.{MoveResult, MoveException, Return, ReturnVoid, Throw}
+use Rattle.instruction.specs.declared.Instruction.the-variants.{InstanceOf, CheckCast}
 use Rattle.instruction.specs.Test.{Holds as TestHolds}
 use Rattle.instruction.proofs.Flags.{or-right, pick-cases}
 use Rattle.mask.specs.Mask.{zeroBit, otherBit, has}
@@ -89,15 +92,34 @@ module _ (p : Program) (c : Claim) (full : (s : Slot) (k : ℕ) → has (c s) k 
       rules-of-hold (Iput a b x) h = (onward-holds (suc pc), (λ k _ _ _. into (registerAt m pc a) (fieldOf k x) (λ _. refl), tt))
       rules-of-hold (Sget a x) h = (except-holds a (suc pc), (into (staticOf x) (registerAt m (suc pc) a) (λ _. refl), tt))
       rules-of-hold (Sput a x) h = (onward-holds (suc pc), (into (registerAt m pc a) (staticOf x) (λ _. refl), tt))
-      rules-of-hold (InvokeVirtual n b r) h = (carried-holds (suc pc), (λ k l _ q _. (full (registerAt q 0 _) k ∙ class-bit k l, λ i _. into (registerAt m pc _) (registerAt q 0 _) (λ _. refl)), (λ k _ _ q _. into (returnedBy q) (resultAt m (suc pc)) (λ _. refl), (λ _ _ _ q _ k l _. caught-holds k l, (λ _ _ _ q _ k l _. uncaught-holds k l, tt)))))
-      rules-of-hold (InvokeStatic q b r) h = (carried-holds (suc pc), (λ n _ i _. into (registerAt m pc _) (registerAt n 0 _) (λ _. refl), (into (returnedBy q) (resultAt m (suc pc)) (λ _. refl), (λ k l _. caught-holds k l, (λ k l _. uncaught-holds k l, tt)))))
+      rules-of-hold (InvokeVirtual n b r) h = (
+        carried-holds (suc pc),
+        (
+          λ k l _ q _. (full (registerAt q 0 _) k ∙ class-bit k l, λ i _. into (registerAt m pc _) (registerAt q 0 _) (λ _. refl)),
+          (
+            λ k _ _ q _. into (returnedBy q) (resultAt m (suc pc)) (λ _. refl),
+            (λ _ _ _ q _ k l _. caught-holds k l, (λ _ _ _ q _ k l _. uncaught-holds k l, tt)),
+          ),
+        ),
+      )
+      rules-of-hold (InvokeStatic q b r) h = (
+        carried-holds (suc pc),
+        (
+          λ n _ i _. into (registerAt m pc _) (registerAt n 0 _) (λ _. refl),
+          (
+            into (returnedBy q) (resultAt m (suc pc)) (λ _. refl),
+            (λ k l _. caught-holds k l, (λ k l _. uncaught-holds k l, tt)),
+          ),
+        ),
+      )
       rules-of-hold (MoveResult a) h = (except-holds a (suc pc), (into (resultAt m pc) (registerAt m (suc pc) a) (λ _. refl), tt))
       rules-of-hold (MoveException a) h = (except-holds a (suc pc), (into (resultAt m pc) (registerAt m (suc pc) a) (λ _. refl), tt))
       rules-of-hold (Return a) h = (into (registerAt m pc a) (returnedBy m) (λ _. refl), tt)
       rules-of-hold ReturnVoid h = (full (returnedBy m) zeroBit ∙ zero-bit, tt)
       rules-of-hold (Throw a) h = (λ k l _ _. caught-holds k l, (λ k l _ _. uncaught-holds k l, tt))
       rules-of-hold (InstanceOf a b k) h = (except-holds a (suc pc), (numbers-hold a, tt))
-      rules-of-hold (CheckCast a k) h = (except-holds a (suc pc), ((λ _. bit-after a zeroBit zero-bit, λ j l _ _. bit-after a j (class-bit j l)), tt))
+      rules-of-hold (CheckCast a k) h =
+          (except-holds a (suc pc), ((λ _. bit-after a zeroBit zero-bit, λ j l _ _. bit-after a j (class-bit j l)), tt))
 
   all-accepted : Formed p → verdict p c ≡ accepted
   all-accepted formed =

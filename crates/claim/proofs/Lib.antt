@@ -13,6 +13,7 @@ pub mod FrameLists
 pub mod Numbers
 pub mod Outcome
 pub mod FullPlaces
+pub mod NoBits
 pub mod OnlyAllowed
 pub mod SampleClaim
 pub mod ReadExamples

@@ -56,7 +56,8 @@ module _ (p : Program) (k : Part) (a b : ℕ) (text : List ℕ) (at d : ℕ) (ws
           (rw (due-head p a b k, due-count p a b k, sym e) (omega (arith, w))))
 
       module _ (r : Bool) (vs : List ℕ)
-          (g : (s : Slot) → f .last ≡ placeOf s → pick r (some vs) none ≡ masksIn text (at + f .head) (f .allowed) (first ++ (s ∷ [])) ws) where
+          (g : (s : Slot) → f .last ≡ placeOf s
+          → pick r (some vs) none ≡ masksIn text (at + f .head) (f .allowed) (first ++ (s ∷ [])) ws) where
         here : pick r (some vs) none ≡ masksIn text (at + f .head) (f .allowed) (first ++ (lastSlot k a b ∷ [])) ws
         here = g (lastSlot k a b) (rw e (due-last p a b k))
 

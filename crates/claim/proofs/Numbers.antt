@@ -7,12 +7,12 @@ use lib.Dec.{ltb}
 use lib.ListN.{length}
 use Rattle.text.specs.Hex.{Line, linesOf, whole}
 use Rattle.text.proofs.Cases.{by-test}
-use Rattle.instruction.specs.Word.{pick}
 use Rattle.instruction.proofs.Flags.{pick-cases}
 use Rattle.program.specs.Program.{Program}
 use Rattle.slots.specs.Layout.{noMasks}
 use Rattle.claim.specs.Frames.{Due, framesDue}
-use Rattle.claim.specs.ReadClaim.{Reading, refused, taken, known, isDue, head, masksFrom, Progress, stopped, reached, onward, takeFrame, takeFrames, ended, readClaim}
+use Rattle.claim.specs.ReadClaim.{Reading, refused, taken, known, isDue, head, masksFrom}
+use Rattle.claim.specs.ReadClaim.{Progress, stopped, reached, onward, takeFrame, takeFrames, ended, readClaim}
 
 -- by line: 10 to 13
 abbrev pub Stopping : Progress → Type 0

@@ -8,7 +8,7 @@ use native.Mathlib.Nat.{div-eq-of-lt}
 use native.Mathlib.Omega.{arith}
 use lib.Dec.{eqb, ltb}
 use lib.Pow.{pow-mono}
-use lib.ListN.{length, getD, set, length-set, length-replicate, getD-replicate, List·getD-eq-default}
+use lib.ListN.{length, getD, set, length-set, List·getD-eq-default}
 use lib.Seq.{getD-set-same, getD-set-other, set-out}
 use borrow.Author.Tests.{ltb-true, ltb-false, eqb-true, eqb-false}
 use Rattle.text.specs.Hex.{Line, linesOf, whole}
@@ -21,9 +21,11 @@ use Rattle.flow.specs.Claim.{Slot}
 use Rattle.slots.specs.Layout.{claimSize, placeOf, maskOf, maskAt, claimIn, noMasks}
 use Rattle.claim.specs.Allowed.{allowed, fullClaim}
 use Rattle.claim.specs.Frames.{Due, framesDue}
-use Rattle.claim.specs.ReadClaim.{refused, taken, digitsFrom, known, head, isDue, masksFrom, Progress, stopped, reached, onward, takeFrame, takeFrames, ended, readClaim}
+use Rattle.claim.specs.ReadClaim.{refused, taken, digitsFrom, known, head, isDue, masksFrom, Progress, stopped, reached, onward}
+use Rattle.claim.specs.ReadClaim.{takeFrame, takeFrames, ended, readClaim}
 use Rattle.claim.proofs.Bits.{full-has}
 use Rattle.claim.proofs.FullPlaces.{fullAt, full-at}
+use Rattle.claim.proofs.NoBits.{none-size, none-zero}
 
 -- no bits are among any
 none-subset : (m : Mask) → subset (maskOf 0) m ≡ true
@@ -33,21 +35,6 @@ none-subset m =
     let least : 1 ≤ 2 ^ k = pow-mono {i = 0} {j = k} (omega arith) in
     let zeros : 0 / 2 ^ k ≡ 0 = div-eq-of-lt (omega arith) in
     absurd (omega (arith, has-bit (maskOf 0) k h, zeros)))
-
--- the words of a claim with no bit
-none-size : length noMasks ≡ claimSize
-unfolding noMasks
-none-size = length-replicate {A = ℕ} claimSize 0
-
-none-inside : (i : ℕ) → i < claimSize → getD noMasks i 0 ≡ 0
-unfolding noMasks
-none-inside i l = getD-replicate {A = ℕ} claimSize i 0 0 l
-
-none-zero : (i : ℕ) → getD noMasks i 0 ≡ 0
-none-zero i =
-    by-test (ltb i claimSize)
-    (λ t. none-inside i (ltb-true i claimSize t))
-    (λ t. List·getD-eq-default noMasks 0 (omega (arith, none-size, ltb-false i claimSize t)))
 
 module _ (p : Program) where
   -- words whose masks have only the bits that their places may have
@@ -124,7 +111,9 @@ module _ (p : Program) where
   read-fine text ws e =
       by-test (ltb 262144 (length text))
       (λ t. let g : refused 9 0 ≡ taken ws = rw t at e in never (cc))
-      (λ t. ended-fine (takeFrames p (framesDue p) (reached (linesOf text) 1 noMasks)) ws (frames-fine (framesDue p) _ none-fine) (rw t at e))
+      (λ t.
+      let end = takeFrames p (framesDue p) (reached (linesOf text) 1 noMasks) in
+      ended-fine end ws (frames-fine (framesDue p) _ none-fine) (rw t at e))
 
   -- ---- the theorem, by masks and by bits
   module _ (text ws : List ℕ) (e : readClaim p text ≡ taken ws) (s : Slot) where

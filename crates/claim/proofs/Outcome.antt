@@ -14,7 +14,8 @@ use Rattle.claim.specs.declared.Answer.{Answer}
 use Rattle.claim.specs.declared.Answer.the-variants.{Read, TooLong}
 use Rattle.claim.specs.declared.Status.{Status}
 use Rattle.claim.specs.Frames.{framesDue}
-use Rattle.claim.specs.ReadClaim.{Reading, refused, taken, known, stopped, reached, takeFrames, ended, readClaim, readingNumber, readingValues, masksAfter, numberOf, valuesOf}
+use Rattle.claim.specs.ReadClaim.{Reading, refused, taken, known, stopped, reached, takeFrames, ended, readClaim}
+use Rattle.claim.specs.ReadClaim.{readingNumber, readingValues, masksAfter, numberOf, valuesOf}
 use Rattle.claim.specs.Inside.{progressOf, lastNumber, answerOf}
 use Rattle.claim.proofs.Numbers.{Stopping, frames-stopping, Numbered}
 
@@ -91,7 +92,8 @@ module _ (p : Program) (text after : List ℕ) where
       pub told-more : (a : Answer) → (more ≡ 0 → ⊥) → a ≡ answerOf more (c .place .line) → Told p text after a
       told-more a h f =
           let r = last-is (linesOf (drop (c .place .at) text)) (c .place .line) after (λ y. h (e ∙ y)) in
-          told-refused (lastNumber (linesOf (drop (c .place .at) text))) (c .place .line) a (read-is ∙ ap ended reached-is ∙ r .0) (r .1) (r .2)
+          let number = lastNumber (linesOf (drop (c .place .at) text)) in
+          told-refused number (c .place .line) a (read-is ∙ ap ended reached-is ∙ r .0) (r .1) (r .2)
           (rw e at f)
 
       pub told-read : more ≡ 0 → Told p text after Read

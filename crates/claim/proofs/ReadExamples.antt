@@ -95,7 +95,7 @@ orders =
     ∷ []
 
 -- two classes, of which the second has a field; a static; a method of two registers
-abbrev small : Program
+abbrev pub small : Program
 small =
     record {
       supers = 255 ∷ 0 ∷ [];
@@ -104,10 +104,13 @@ small =
       methods = record { header = 0x0000010200; code = 0x1100000000000000 ∷ []; handlers = [] } ∷ [];
     }
 
+-- its claim with all allowed bits
+abbrev pub smallFull : String
+smallFull = "110000" ++ all ++ all ++ all ++ "\n120100" ++ all ++ "\n1300" ++ all ++ "\n1400" ++ all ++ "\n1500" ++ both ++ "\n"
+
 abbrev masks : List Row
 masks =
-    -- all bits allowed
-    row small ("110000" ++ all ++ all ++ all ++ "\n120100" ++ all ++ "\n1300" ++ all ++ "\n1400" ++ all ++ "\n1500" ++ both ++ "\n") 0 0
+    row small smallFull 0 0
     -- class 0 does not have the field; it is due before the static
     ∷ row small ("110000" ++ all ++ all ++ all ++ "\n120000" ++ all ++ "\n") 12 2
     ∷ row small ("110000" ++ all ++ all ++ all ++ "\n1300" ++ all ++ "\n120100" ++ all ++ "\n") 12 2

@@ -1,15 +1,11 @@
-// The frames due: how far the numbers of each part go, what the frame at two numbers is like, whether a line is it.
+// The frames due: how far the numbers of each part go, and what the frame at two numbers is like. Every function takes any tables and
+// numbers.
 use super::Frame;
 use super::Part;
 ghost use mathlib.Core.Path.{_≡_};
-ghost use mathlib.Core.Bool.{true};
-ghost use Prim.Native.Nat.{_+_, _≤_, _<_};
-ghost use lib.ListN.{length, take, drop};
-ghost use Rattle.text.specs.Hex.{allDigits, numberOf, digitsAt};
 ghost use Rattle.program.specs.Tables.{programIn};
-ghost use Rattle.reader.specs.Inside.{lineAt};
 ghost use Rattle.claim.specs.Frames.{outer, inner};
-ghost use Rattle.claim.specs.Inside.{present, classBits, frameOf, isFrame, otherNumber};
+ghost use Rattle.claim.specs.Inside.{present, classBits, frameOf};
 
 // How far the first number of a part's frames goes.
 pub fn outer(t: &[u64; 768], k: Part) -> usize
@@ -103,38 +99,4 @@ pub fn frame_of(t: &[u64; 768], k: Part, a: usize, b: usize) -> Frame
             allowed: classes,
         },
     }
-}
-
-// Whether a whole line is the frame due, by kind, numbers and length. The line's digits are tested.
-pub fn is_due(text: &[u8], at: usize, digits: usize, f: Frame, a: usize, b: usize) -> bool
-    requires { ⌜ (at + digits < length (now text)) × (allDigits (take digits (drop at (now text))) ≡ true) × (4 ≤ f .head) × (f .head ≤ 6) × (f .registers ≤ 255) ⌝ }
-    ensures value { λ r. ⌜ r ≡ isFrame f a b (lineAt (now (text .entry)) at digits) ⌝ }
-{
-    if digits != f.head + 16 * (f.registers + 1) {
-        return false;
-    }
-    if text::two_at(text, at) != f.kind {
-        return false;
-    }
-    if text::two_at(text, at + 2) != a as u64 {
-        return false;
-    }
-    if f.head == 4 {
-        return true;
-    }
-    text::two_at(text, at + 4) == b as u64
-}
-
-// The refusal's number of a whole line that is not the frame due.
-pub fn other_number(text: &[u8], at: usize) -> usize
-    ensures value { λ r. ⌜ r ≡ otherNumber (numberOf (digitsAt (now (text .entry)) at 2)) ⌝ }
-{
-    let kind = text::number_at(text, at, 2);
-    if kind < 17 {
-        return 11;
-    }
-    if 21 < kind {
-        return 11;
-    }
-    12
 }

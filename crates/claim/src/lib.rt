@@ -1,5 +1,5 @@
 // The claim text: a claim's masks into words that the caller lends, or a refusal with its number and line.
-mod due; // due.rt: the frames due
+pub mod due; // due.rt: the frames due
 mod line; // line.rt: one line
 mod walk; // walk.rt: line after line
 
@@ -90,8 +90,12 @@ fn refusal(number: usize, line: usize) -> Answer
 // Takes a claim text into words of no mask. Read: the words hold the claim.
 fn take(t: &[u64; 768], text: &[u8], w: &mut [u64; 9712]) -> Answer
     requires { ⌜ now w ≡ noMasks ⌝ }
-    ensures answer { λ r. ⌜ (numberOf r ≡ readingNumber (readClaim (programIn (now (t .entry))) (now (text .entry)))) × (valuesOf r ≡ readingValues (readClaim (programIn (now (t .entry))) (now (text .entry)))) ⌝ }
-    ensures masks { λ r. ⌜ ((ms : List ℕ) → readClaim (programIn (now (t .entry))) (now (text .entry)) ≡ taken ms → now (w .exit) ≡ ms) ⌝ }
+    ensures answer { λ r.
+        let reading = readClaim (programIn (now (t .entry))) (now (text .entry)) in
+        ⌜ (numberOf r ≡ readingNumber reading) × (valuesOf r ≡ readingValues reading) ⌝ }
+    ensures masks { λ r.
+        let reading = readClaim (programIn (now (t .entry))) (now (text .entry)) in
+        ⌜ ((ms : List ℕ) → reading ≡ taken ms → now (w .exit) ≡ ms) ⌝ }
 {
     if 262144 < text.len() {
         return Answer::TooLong;
@@ -110,8 +114,12 @@ fn take(t: &[u64; 768], text: &[u8], w: &mut [u64; 9712]) -> Answer
 
 // Reads a claim text for the program in tables. Read: the words hold the claim. Refused: they are as they were.
 pub fn read(t: &[u64; 768], text: &[u8], w: &mut [u64; 9712]) -> Answer
-    ensures answer { λ r. ⌜ (numberOf r ≡ readingNumber (readClaim (programIn (now (t .entry))) (now (text .entry)))) × (valuesOf r ≡ readingValues (readClaim (programIn (now (t .entry))) (now (text .entry)))) ⌝ }
-    ensures memory { λ r. ⌜ now (w .exit) ≡ masksAfter (readClaim (programIn (now (t .entry))) (now (text .entry))) (now (w .entry)) ⌝ }
+    ensures answer { λ r.
+        let reading = readClaim (programIn (now (t .entry))) (now (text .entry)) in
+        ⌜ (numberOf r ≡ readingNumber reading) × (valuesOf r ≡ readingValues reading) ⌝ }
+    ensures memory { λ r.
+        let reading = readClaim (programIn (now (t .entry))) (now (text .entry)) in
+        ⌜ now (w .exit) ≡ masksAfter reading (now (w .entry)) ⌝ }
 {
     let mut draft = [0u64; 9712];
     let answer = take(t, text, &mut draft);
@@ -124,8 +132,12 @@ pub fn read(t: &[u64; 768], text: &[u8], w: &mut [u64; 9712]) -> Answer
 
 // The same without a draft, for words of the caller's own. Refused: they hold no mask.
 pub fn fill(t: &[u64; 768], text: &[u8], w: &mut [u64; 9712]) -> Answer
-    ensures answer { λ r. ⌜ (numberOf r ≡ readingNumber (readClaim (programIn (now (t .entry))) (now (text .entry)))) × (valuesOf r ≡ readingValues (readClaim (programIn (now (t .entry))) (now (text .entry)))) ⌝ }
-    ensures memory { λ r. ⌜ now (w .exit) ≡ masksAfter (readClaim (programIn (now (t .entry))) (now (text .entry))) noMasks ⌝ }
+    ensures answer { λ r.
+        let reading = readClaim (programIn (now (t .entry))) (now (text .entry)) in
+        ⌜ (numberOf r ≡ readingNumber reading) × (valuesOf r ≡ readingValues reading) ⌝ }
+    ensures memory { λ r.
+        let reading = readClaim (programIn (now (t .entry))) (now (text .entry)) in
+        ⌜ now (w .exit) ≡ masksAfter reading noMasks ⌝ }
 {
     *w = [0u64; 9712];
     let answer = take(t, text, &mut *w);

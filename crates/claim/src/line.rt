@@ -1,4 +1,5 @@
 // One line taken as the frame due: its masks into words, or the number of its refusal.
+use super::Frame;
 use super::Part;
 use super::due;
 use mask::Mask;
@@ -8,7 +9,7 @@ ghost use mathlib.Core.List.{List, [], _∷_, _++_};
 ghost use mathlib.Core.Option.{some, none};
 ghost use Prim.Native.Nat.{ℕ, _+_, _*_, _≤_, _<_};
 ghost use lib.ListN.{length, take, drop, set};
-ghost use Rattle.text.specs.Hex.{Line, allDigits};
+ghost use Rattle.text.specs.Hex.{Line, allDigits, numberOf, digitsAt};
 ghost use Rattle.instruction.specs.Word.{pick};
 ghost use Rattle.mask.specs.Mask.{subset};
 ghost use Rattle.program.specs.Lists.{tab};
@@ -16,7 +17,42 @@ ghost use Rattle.program.specs.Tables.{programIn};
 ghost use Rattle.flow.specs.Claim.{Slot, registerAt};
 ghost use Rattle.slots.specs.Layout.{placeOf, maskOf};
 ghost use Rattle.reader.specs.Inside.{lineAt};
-ghost use Rattle.claim.specs.Inside.{dueAt, maskIn, masksIn, takeWhole, afterLine};
+ghost use Rattle.claim.specs.Inside.{isFrame, otherNumber, dueAt, maskIn, masksIn, takeWhole, afterLine};
+
+// Whether a whole line is the frame due, by kind, numbers and length. The line's digits are tested.
+fn is_due(text: &[u8], at: usize, digits: usize, f: Frame, a: usize, b: usize) -> bool
+    requires { let line = take digits (drop at (now text)) in
+        ⌜ (at + digits < length (now text)) × (allDigits line ≡ true) × (4 ≤ f .head) × (f .head ≤ 6) × (f .registers ≤ 255) ⌝ }
+    ensures value { λ r. ⌜ r ≡ isFrame f a b (lineAt (now (text .entry)) at digits) ⌝ }
+{
+    if digits != f.head + 16 * (f.registers + 1) {
+        return false;
+    }
+    if text::two_at(text, at) != f.kind {
+        return false;
+    }
+    if text::two_at(text, at + 2) != a as u64 {
+        return false;
+    }
+    if f.head == 4 {
+        return true;
+    }
+    text::two_at(text, at + 4) == b as u64
+}
+
+// The refusal's number of a whole line that is not the frame due.
+pub fn other_number(text: &[u8], at: usize) -> usize
+    ensures value { λ r. ⌜ r ≡ otherNumber (numberOf (digitsAt (now (text .entry)) at 2)) ⌝ }
+{
+    let kind = text::number_at(text, at, 2);
+    if kind < 17 {
+        return 11;
+    }
+    if 21 < kind {
+        return 11;
+    }
+    12
+}
 
 // The bits of the mask after another: the same where the digits repeat. The line's digits are tested.
 fn mask_after(text: &[u8], at: usize, bits: u64) -> u64
@@ -57,7 +93,11 @@ fn take_masks(
     w: &mut [u64; 9712],
 ) -> bool
     requires { ⌜ (at + 16 * (n + 1) ≤ length (now text)) × (n ≤ 255) × (allDigits (take (16 * (n + 1)) (drop at (now text))) ≡ true) ⌝ }
-    ensures masks { λ r. ⌜ ((s : Slot) → last ≡ placeOf s → pick r (some (now (w .exit))) none ≡ masksIn (now (text .entry)) at allowed (tab n (registerAt m pc) ++ (s ∷ [])) (now (w .entry))) ⌝ }
+    ensures masks { λ r.
+        let bytes = now (text .entry) in
+        let taken = pick r (some (now (w .exit))) none in
+        ⌜ ((s : Slot) → last ≡ placeOf s
+        → taken ≡ masksIn bytes at allowed (tab n (registerAt m pc) ++ (s ∷ [])) (now (w .entry))) ⌝ }
 {
     let mut bits = text::sixteen_at(text, at);
     let mut r: usize = 0;
@@ -83,11 +123,15 @@ pub fn take_line(
     w: &mut [u64; 9712],
 ) -> usize
     requires { ⌜ (2 ≤ digits) × (at + digits < length (now text)) × (allDigits (take digits (drop at (now text))) ≡ true) ⌝ }
-    ensures progress { λ r. ⌜ ((ls : List Line) → (n : ℕ) → afterLine r ls n (now (w .exit)) ≡ takeWhole (programIn (now (t .entry))) (dueAt (programIn (now (t .entry))) k a b) (lineAt (now (text .entry)) at digits) ls n (now (w .entry))) ⌝ }
+    ensures progress { λ r.
+        let p = programIn (now (t .entry)) in
+        let line = lineAt (now (text .entry)) at digits in
+        ⌜ ((ls : List Line) → (n : ℕ)
+        → afterLine r ls n (now (w .exit)) ≡ takeWhole p (dueAt p k a b) line ls n (now (w .entry))) ⌝ }
 {
     let f = due::frame_of(t, k, a, b);
-    if !due::is_due(text, at, digits, f, a, b) {
-        return due::other_number(text, at);
+    if !is_due(text, at, digits, f, a, b) {
+        return other_number(text, at);
     }
     if !take_masks(text, at + f.head, f.registers, f.allowed, a, b, f.last, w) {
         return 13;

@@ -26,7 +26,10 @@ fn take_frame(
 ) -> Status
     requires { ⌜ Placed from (now text) ⌝ }
     ensures place { λ r. ⌜ Placed r (now (text .entry)) ⌝ }
-    ensures progress { λ r. ⌜ progressOf (now (text .entry)) r (now (w .exit)) ≡ takeFrame (programIn (now (t .entry))) (dueAt (programIn (now (t .entry))) k a b) (progressOf (now (text .entry)) from (now (w .entry))) ⌝ }
+    ensures progress { λ r.
+        let p = programIn (now (t .entry)) in
+        let bytes = now (text .entry) in
+        ⌜ progressOf bytes r (now (w .exit)) ≡ takeFrame p (dueAt p k a b) (progressOf bytes from (now (w .entry))) ⌝ }
 {
     if from.number != 0 {
         return from;
@@ -60,7 +63,10 @@ fn take_at(
 ) -> Status
     requires { ⌜ Placed from (now text) ⌝ }
     ensures place { λ r. ⌜ Placed r (now (text .entry)) ⌝ }
-    ensures progress { λ r. ⌜ progressOf (now (text .entry)) r (now (w .exit)) ≡ takeFrames (programIn (now (t .entry))) (frameAt (programIn (now (t .entry))) k a b) (progressOf (now (text .entry)) from (now (w .entry))) ⌝ }
+    ensures progress { λ r.
+        let p = programIn (now (t .entry)) in
+        let bytes = now (text .entry) in
+        ⌜ progressOf bytes r (now (w .exit)) ≡ takeFrames p (frameAt p k a b) (progressOf bytes from (now (w .entry))) ⌝ }
 {
     if due::present(t, k, a, b) {
         return take_frame(t, text, from, k, a, b, w);
@@ -79,7 +85,11 @@ fn take_row(
 ) -> Status
     requires { ⌜ Placed from (now text) ⌝ }
     ensures place { λ r. ⌜ Placed r (now (text .entry)) ⌝ }
-    ensures progress { λ r. ⌜ progressOf (now (text .entry)) r (now (w .exit)) ≡ takeFrames (programIn (now (t .entry))) (joined (inner (programIn (now (t .entry))) k a) (frameAt (programIn (now (t .entry))) k a)) (progressOf (now (text .entry)) from (now (w .entry))) ⌝ }
+    ensures progress { λ r.
+        let p = programIn (now (t .entry)) in
+        let bytes = now (text .entry) in
+        ⌜ progressOf bytes r (now (w .exit))
+        ≡ takeFrames p (joined (inner p k a) (frameAt p k a)) (progressOf bytes from (now (w .entry))) ⌝ }
 {
     let n = due::inner(t, k, a);
     let mut to = from;
@@ -95,7 +105,10 @@ fn take_row(
 fn take_part(t: &[u64; 768], text: &[u8], from: Status, k: Part, w: &mut [u64; 9712]) -> Status
     requires { ⌜ Placed from (now text) ⌝ }
     ensures place { λ r. ⌜ Placed r (now (text .entry)) ⌝ }
-    ensures progress { λ r. ⌜ progressOf (now (text .entry)) r (now (w .exit)) ≡ takeFrames (programIn (now (t .entry))) (partDue (programIn (now (t .entry))) k) (progressOf (now (text .entry)) from (now (w .entry))) ⌝ }
+    ensures progress { λ r.
+        let p = programIn (now (t .entry)) in
+        let bytes = now (text .entry) in
+        ⌜ progressOf bytes r (now (w .exit)) ≡ takeFrames p (partDue p k) (progressOf bytes from (now (w .entry))) ⌝ }
 {
     let n = due::outer(t, k);
     let mut to = from;
@@ -109,7 +122,10 @@ fn take_part(t: &[u64; 768], text: &[u8], from: Status, k: Part, w: &mut [u64; 9
 
 // Takes all frames due.
 pub fn take_parts(t: &[u64; 768], text: &[u8], w: &mut [u64; 9712]) -> Status
-    ensures progress { λ r. ⌜ progressOf (now (text .entry)) r (now (w .exit)) ≡ takeFrames (programIn (now (t .entry))) (framesDue (programIn (now (t .entry)))) (reached (linesOf (now (text .entry))) 1 (now (w .entry))) ⌝ }
+    ensures progress { λ r.
+        let p = programIn (now (t .entry)) in
+        let bytes = now (text .entry) in
+        ⌜ progressOf bytes r (now (w .exit)) ≡ takeFrames p (framesDue p) (reached (linesOf bytes) 1 (now (w .entry))) ⌝ }
 {
     let start = Status {
         number: 0,
@@ -131,6 +147,6 @@ pub fn after_last(text: &[u8], place: Cursor) -> usize
     match read {
         LineRead::End => 0,
         LineRead::Broken => 10,
-        LineRead::Whole(digits) => due::other_number(text, place.at),
+        LineRead::Whole(digits) => line::other_number(text, place.at),
     }
 }

@@ -2,9 +2,9 @@
 use mathlib.Core.Path.{_≡_, refl}
 use mathlib.Core.Bool.{true, false}
 use mathlib.Core.List.{[], _∷_}
-use Rattle.command.specs.declared.Command.the-variants.{Plain, Check, Step, Help, Unknown}
+use Rattle.command.specs.declared.Command.the-variants.{Plain, Check, Step, Claim, Help, Unknown}
 use Rattle.command.specs.declared.Steps.the-variants.{Count, NoNumber}
-use Rattle.command.specs.Command.{checkWord, stepWord, helpWord, longHelpWord, shortHelpWord}
+use Rattle.command.specs.Command.{checkWord, stepWord, claimWord, helpWord, longHelpWord, shortHelpWord}
 use Rattle.command.specs.Command.{same, allDigits, valueFrom, countOf, commandFor}
 
 -- no word; `check A B`; `check A`; `help`; `help A`
@@ -86,6 +86,23 @@ step-alone = refl
 step-more : commandFor 4 stepWord (50 ∷ 53 ∷ []) ≡ Unknown
 unfolding same
 step-more = refl
+
+-- `claim`; `claim A`; `claim A B`; `claims`
+claim-here : commandFor 1 claimWord [] ≡ Claim false
+unfolding same
+claim-here = refl
+
+claim-named : commandFor 2 claimWord (65 ∷ []) ≡ Claim true
+unfolding same
+claim-named = refl
+
+claim-more : commandFor 3 claimWord (65 ∷ []) ≡ Unknown
+unfolding same
+claim-more = refl
+
+claims : commandFor 1 (99 ∷ 108 ∷ 97 ∷ 105 ∷ 109 ∷ 115 ∷ []) [] ≡ Unknown
+unfolding same
+claims = refl
 
 -- the word 0; leading zeros; 1000001; more digits than 64 bits hold; no digit; `-1`; `2a`
 zero-steps : countOf (48 ∷ []) ≡ Count 0

@@ -4,7 +4,7 @@ use mathlib.Core.List.{List, [], _∷_}
 use Prim.Native.Nat.{ℕ, _+_, _*_, _-_, min}
 use lib.Dec.{eqb, ltb, leb}
 use Rattle.command.specs.declared.Command.{Command}
-use Rattle.command.specs.declared.Command.the-variants.{Plain, Check, Step, Help, Unknown}
+use Rattle.command.specs.declared.Command.the-variants.{Plain, Check, Step, Claim, Help, Unknown}
 use Rattle.command.specs.declared.Steps.{Steps}
 use Rattle.command.specs.declared.Steps.the-variants.{Count, NoNumber}
 
@@ -15,12 +15,15 @@ same [] (b ∷ bs) = false
 same (a ∷ rest) [] = false
 same (a ∷ rest) (b ∷ bs) = eqb a b && same rest bs
 
--- `check`, `step`, `help`, `--help`, `-h`
+-- `check`, `step`, `claim`, `help`, `--help`, `-h`
 abbrev pub checkWord : List ℕ
 checkWord = 99 ∷ 104 ∷ 101 ∷ 99 ∷ 107 ∷ []
 
 abbrev pub stepWord : List ℕ
 stepWord = 115 ∷ 116 ∷ 101 ∷ 112 ∷ []
+
+abbrev pub claimWord : List ℕ
+claimWord = 99 ∷ 108 ∷ 97 ∷ 105 ∷ 109 ∷ []
 
 abbrev pub helpWord : List ℕ
 helpWord = 104 ∷ 101 ∷ 108 ∷ 112 ∷ []
@@ -58,11 +61,18 @@ abbrev pub stepFor : Steps → Bool → Command
 stepFor (Count n) named = Step n named
 stepFor NoNumber named = Unknown
 
--- so many words, of which these are the first two: no word; `check PANEL CLAIM`; `step N [PANEL]`; `help`, `--help` or `-h`; anything else
+-- `claim [PANEL]`; `help`, `--help` or `-h`; anything else
+abbrev pub otherFor : ℕ → List ℕ → Command
+otherFor count first =
+    pick (same first claimWord)
+    (pick (eqb count 1) (Claim false) (pick (eqb count 2) (Claim true) Unknown))
+    (pick (asksHelp first) (pick (eqb count 1) Help Unknown) Unknown)
+
+-- so many words, of which these are the first two: no word; `check PANEL CLAIM`; `step N [PANEL]`; another
 abbrev pub commandFor : ℕ → List ℕ → List ℕ → Command
 commandFor count first second =
     pick (eqb count 0) Plain
     (pick (same first checkWord) (pick (eqb count 3) Check Unknown)
     (pick (same first stepWord)
     (pick (eqb count 2) (stepFor (countOf second) false) (pick (eqb count 3) (stepFor (countOf second) true) Unknown))
-    (pick (asksHelp first) (pick (eqb count 1) Help Unknown) Unknown)))
+    (otherFor count first)))

@@ -1,7 +1,7 @@
 // What the words of the tool's command line ask.
 ghost use mathlib.Core.Path.{_≡_};
 ghost use Prim.Native.Nat.{_+_, _*_, _-_, min, _≤_};
-ghost use Rattle.command.specs.Command.{same, asksHelp, isDigit, countOf, stepFor, commandFor};
+ghost use Rattle.command.specs.Command.{same, asksHelp, isDigit, countOf, stepFor, otherFor, commandFor};
 
 // How many steps a word asks for, at most 1,000,000, or no number.
 pub enum Steps {
@@ -16,6 +16,8 @@ pub enum Command {
     Check,
     // So many steps of a panel, by name or not.
     Step { steps: u64, named: bool },
+    // The claim of a panel, by name or not.
+    Claim { named: bool },
     Help,
     // Anything else.
     Unknown,
@@ -90,6 +92,27 @@ fn step_for(word: &[u8], named: bool) -> Command
     }
 }
 
+// `claim [PANEL]`, and what asks for help.
+fn other_of(count: usize, first: &[u8]) -> Command
+    ensures value { λ r. ⌜ r ≡ otherFor count (now (first .entry)) ⌝ }
+{
+    if equal(first, b"claim") {
+        if count == 1 {
+            return Command::Claim { named: false };
+        }
+        if count == 2 {
+            return Command::Claim { named: true };
+        }
+        return Command::Unknown;
+    }
+    if asks_help(first) {
+        if count == 1 {
+            return Command::Help;
+        }
+    }
+    Command::Unknown
+}
+
 // What is asked by so many words, of which these are the first two.
 pub fn command_of(count: usize, first: &[u8], second: &[u8]) -> Command
     ensures value { λ r. ⌜ r ≡ commandFor count (now (first .entry)) (now (second .entry)) ⌝ }
@@ -112,10 +135,5 @@ pub fn command_of(count: usize, first: &[u8], second: &[u8]) -> Command
         }
         return Command::Unknown;
     }
-    if asks_help(first) {
-        if count == 1 {
-            return Command::Help;
-        }
-    }
-    Command::Unknown
+    other_of(count, first)
 }

@@ -1,5 +1,5 @@
-// Tries the cases that the second implementation (compare/) wrote into data/: reads texts, then makes runs, then checks claims, and
-// prints for each record what comes of it. What must be printed, the file `stdout`, is what the second implementation answers.
+// Tries the cases that the second implementation (compare/) wrote into data/: reads texts, then makes runs, checks claims and
+// writes claims, and prints for each record what comes of it. What must be printed, the file `stdout`, is what the second implementation answers.
 use record::Next;
 
 mod checks;
@@ -9,12 +9,14 @@ mod number;
 mod record;
 mod runs;
 mod texts;
+mod writes;
 
-// What the records of a file are: texts to read, runs to make, claims to check.
+// What the records of a file are: texts to read, runs to make, claims to check, panels whose claims are written.
 enum Records {
     Texts,
     Runs,
     Checks,
+    Writes,
 }
 
 // Tries a record whose text is read and prints its lines; false, and a line on standard error, where it is no record.
@@ -26,6 +28,7 @@ fn show_record(fd: i32, records: Records, text: &[u8]) -> bool {
         }
         Records::Runs => runs::show_rest(fd, text),
         Records::Checks => checks::show_claim(fd, text),
+        Records::Writes => writes::show_rest(fd, text),
     }
 }
 
@@ -67,5 +70,9 @@ fn main() {
         && show_file(b"checks0.bin", Records::Checks)
         && show_file(b"checks1.bin", Records::Checks)
         && show_file(b"checks2.bin", Records::Checks)
-        && show_file(b"checks3.bin", Records::Checks);
+        && show_file(b"checks3.bin", Records::Checks)
+        && show_file(b"writes0.bin", Records::Writes)
+        && show_file(b"writes1.bin", Records::Writes)
+        && show_file(b"writes2.bin", Records::Writes)
+        && show_file(b"writes3.bin", Records::Writes);
 }

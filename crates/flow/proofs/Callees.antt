@@ -25,7 +25,7 @@ some-at zero test i l e = absurd (not-suc-le-zero l)
 some-at (suc n) test zero l e = rw e
 some-at (suc n) test (suc i) l e = or-right (test zero) _ (some-at n (λ k. test (suc k)) i (le-of-suc-le-suc l) e)
 
-or-cases : {P : Type 0} (a b : Bool) → (a ≡ true → P) → (b ≡ true → P) → a || b ≡ true → P
+pub or-cases : {P : Type 0} (a b : Bool) → (a ≡ true → P) → (b ≡ true → P) → a || b ≡ true → P
 or-cases true b h k e = h refl
 or-cases false b h k e = k e
 
@@ -41,6 +41,9 @@ some-one (suc n) test e =
 pub found-is : (r : Callee) (q : ℕ) → isFound r q ≡ true → r ≡ Found q
 found-is (Found m) q e = rw (eqb-true m q e)
 found-is Missing q e = absurd (false≢true e)
+
+pub is-found : (r : Callee) (q : ℕ) → r ≡ Found q → isFound r q ≡ true
+is-found r q f = rw (f, eq-eqb q q refl)
 
 module _ (p : Program) (c : Claim) (m pc q : ℕ) where
   -- class k in the receiver leads to q

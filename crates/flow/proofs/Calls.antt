@@ -36,7 +36,7 @@ handling-found p m pc k h (some i) q e =
     let same : i ≡ h = cc in
     rw (← same) (first-some (handlerCount p m) (catches p m pc k) i q .0)
 
-handler-exists : (p : Program) (m pc k h : ℕ) → handlerFor p m pc k ≡ Caught h → h < handlerCount p m
+pub handler-exists : (p : Program) (m pc k h : ℕ) → handlerFor p m pc k ≡ Caught h → h < handlerCount p m
 unfolding handlerFor
 handler-exists p m pc k h e = handling-found p m pc k h (first (handlerCount p m) (catches p m pc k)) refl e
 

@@ -1,3 +1,4 @@
 pub mod Decimals
 pub mod Examples
 pub mod Puts
+mod Bytes

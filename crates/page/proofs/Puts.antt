@@ -69,12 +69,24 @@ put-then {out} {at} {x} {a} {i} {y} {b} {j} p q =
 pub put-as : {out : List ℕ} {at : ℕ} {x y after : List ℕ} {next : ℕ} → Put out at x after next → x ≡ y → Put out at y after next
 put-as p e = rw e at p
 
+-- a next place that is said in another way
+pub put-at : {out : List ℕ} {at : ℕ} {text after : List ℕ} {next other : ℕ} → Put out at text after next → next ≡ other
+    → Put out at text after other
+put-at p e = rw e at p
+
 -- one byte more of a byte string
 pub put-more : (bytes : List ℕ) (i : ℕ) {out : List ℕ} {at : ℕ} {a : List ℕ} {k : ℕ} {b : List ℕ} {j : ℕ} → i < length bytes
     → Put out at (take i bytes) a k
     → Put a k (getD bytes i 0 ∷ []) b j
     → Put out at (take (i + 1) bytes) b j
 put-more bytes i h p q = put-as (put-then p q) (sym (ap (λ (n : ℕ). take n bytes) (add-one i) ∙ take-suc bytes i 0 h))
+
+-- the same inside the buffer
+pub put-next : (bytes : List ℕ) (i : ℕ) {out : List ℕ} {at : ℕ} {a : List ℕ} → i < length bytes → at + length bytes ≤ length out
+    → Put out at (take i bytes) a (at + i)
+    → Put out at (take (i + 1) bytes) (set a (at + i) (getD bytes i 0)) (at + (i + 1))
+put-next bytes i {out} {at} {a} h room p =
+    put-at (put-more bytes i h p (put-inside a (at + i) (getD bytes i 0) (omega (arith, h, room, put-length p)))) (omega arith)
 
 -- a text that fits
 fits-place : (n : ℕ) (text : List ℕ) (at : ℕ) → at + length text ≤ n → placeAfter n at text ≡ at + length text

@@ -16,6 +16,10 @@ two n = digitOf (n / 16 % 16) ∷ digitOf (n % 16) ∷ []
 abbrev pub eight : ℕ → List ℕ
 eight n = two (n / 16777216) ++ two (n / 65536) ++ two (n / 256) ++ two n
 
+-- "A mask is 64 bits": all eight bytes, the high byte first
+abbrev pub sixteen : ℕ → List ℕ
+sixteen n = eight (n / 4294967296) ++ eight n
+
 -- a number in decimal, at most k digits of it, no zero in front
 unfoldable pub decimalBy : ℕ → ℕ → List ℕ
 decimalBy zero n = []

@@ -1,8 +1,14 @@
 // Bytes, digits and numbers put one after another into a buffer. Every function takes any place of any buffer, puts what goes in,
 // and answers the next place.
+mod packed; // packed.rt: digits in words, put eight at a time
+
+pub use packed::Sixteen;
+pub use packed::digits;
+pub use packed::put_sixteen;
 ghost use mathlib.Core.List.{[], _∷_};
 ghost use mathlib.Core.Path.{_≡_};
-ghost use Prim.Native.Nat.{_<_};
+ghost use Prim.Native.Nat.{_+_, _<_, _≤_};
+ghost use lib.ListN.{length};
 ghost use Rattle.page.specs.Digits.{digitOf, two, eight, decimalBy, decimal};
 ghost use Rattle.page.specs.Page.{Put};
 
@@ -17,8 +23,21 @@ pub fn put_byte(out: &mut [u8], at: usize, byte: u8) -> usize
     at
 }
 
-// Puts a byte string.
-pub fn put(out: &mut [u8], at: usize, bytes: &[u8]) -> usize
+// Puts a byte string that goes in whole.
+fn put_whole(out: &mut [u8], at: usize, bytes: &[u8]) -> usize
+    requires { ⌜ at + length (now bytes) ≤ length (now out) ⌝ }
+    ensures put { λ r. ⌜ Put (now (out .entry)) at (now (bytes .entry)) (now (out .exit)) r ⌝ }
+{
+    let mut i = 0;
+    while i < bytes.len() {
+        out[at + i] = bytes[i];
+        i += 1;
+    }
+    at + i
+}
+
+// Puts as much of a byte string as goes in.
+fn put_cut(out: &mut [u8], at: usize, bytes: &[u8]) -> usize
     ensures put { λ r. ⌜ Put (now (out .entry)) at (now (bytes .entry)) (now (out .exit)) r ⌝ }
 {
     let mut next = at;
@@ -28,6 +47,18 @@ pub fn put(out: &mut [u8], at: usize, bytes: &[u8]) -> usize
         i += 1;
     }
     next
+}
+
+// Puts a byte string.
+pub fn put(out: &mut [u8], at: usize, bytes: &[u8]) -> usize
+    ensures put { λ r. ⌜ Put (now (out .entry)) at (now (bytes .entry)) (now (out .exit)) r ⌝ }
+{
+    if at <= out.len() {
+        if bytes.len() <= out.len() - at {
+            return put_whole(out, at, bytes);
+        }
+    }
+    put_cut(out, at, bytes)
 }
 
 // The lowercase hexadecimal digit of a number.

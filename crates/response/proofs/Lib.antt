@@ -4,3 +4,4 @@ pub mod Claims
 pub mod Examples
 pub mod Longest
 pub mod Runs
+mod Panels

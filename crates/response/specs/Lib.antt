@@ -1,3 +1,4 @@
 pub mod Claimed
 pub mod Stepped
+pub mod Written
 pub mod Inside

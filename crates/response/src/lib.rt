@@ -1,8 +1,10 @@
 // What the tool prints for its texts on standard output, and tells on standard error in the words of a table.
 mod stepped;
+mod written;
 
 pub use stepped::of_run;
 use verdict::Verdict;
+pub use written::of_panel;
 ghost use mathlib.Core.Path.{_≡_};
 ghost use mathlib.Core.List.{List, _++_};
 ghost use Prim.Native.Nat.{ℕ, _≤_};

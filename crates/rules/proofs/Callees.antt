@@ -2,14 +2,13 @@
 use mathlib.Core.Path.{_≡_, refl, sym, _∙_}
 use mathlib.Core.Bool.{Bool, true, not, _&&_, _||_}
 use Prim.Native.Nat.{ℕ, _<_}
-use borrow.Author.Tests.{eq-eqb}
 use Rattle.instruction.proofs.Flags.{both-true, if-use, if-true}
 use Rattle.mask.specs.Mask.{every}
 use Rattle.mask.proofs.Laws.{same-test, every-at, every-all}
 use Rattle.search.specs.declared.Callee.{Callee}
 use Rattle.search.specs.declared.Callee.the-variants.{Found, Missing}
 use Rattle.flow.specs.Flows.{some, isFound, ifFound}
-use Rattle.flow.proofs.Callees.{some-at, some-one, found-is}
+use Rattle.flow.proofs.Callees.{some-at, some-one, found-is, is-found}
 
 -- a test of the callee that was found, by that callee
 if-found : (r : Callee) (test : ℕ → Bool) → ((q : ℕ) → r ≡ Found q → test q ≡ true) → ifFound r test ≡ true
@@ -18,9 +17,6 @@ if-found Missing test h = refl
 
 found-if : (r : Callee) (test : ℕ → Bool) (q : ℕ) → ifFound r test ≡ true → r ≡ Found q → test q ≡ true
 found-if r test q e f = rw f at e
-
-is-found : (r : Callee) (q : ℕ) → r ≡ Found q → isFound r q ≡ true
-is-found r q f = rw (f, eq-eqb q q refl)
 
 module _ (n methods : ℕ) (mask : ℕ → Bool) (find : ℕ → Callee) (callees : ℕ → Bool)
     (lead : (q : ℕ) → callees q ≡ some n (λ k. mask k && isFound (find k) q))

@@ -38,9 +38,18 @@ fn take_callee(
     q: usize,
 ) -> Callees
     requires { ⌜ (pc < 32) × (now s ≡ setsOf (programIn (now t))) ⌝ }
-    ensures given { λ r. ⌜ r .given ≡ prior .given && calleeGiven (programIn (now (t .entry))) (claimIn (now (w .entry))) m pc mask name count register q ⌝ }
-    ensures returned { λ r. ⌜ r .returned ≡ prior .returned && calleeReturned (programIn (now (t .entry))) (claimIn (now (w .entry))) m pc mask name count q ⌝ }
-    ensures raised { λ r. ⌜ ((k : ℕ) → has (r .raised) k ≡ has (prior .raised) k || leavesCallee (programIn (now (t .entry))) (claimIn (now (w .entry))) mask name count k q) ⌝ }
+    ensures given { λ r.
+        let p = programIn (now (t .entry)) in
+        let c = claimIn (now (w .entry)) in
+        ⌜ r .given ≡ prior .given && calleeGiven p c m pc mask name count register q ⌝ }
+    ensures returned { λ r.
+        let p = programIn (now (t .entry)) in
+        let c = claimIn (now (w .entry)) in
+        ⌜ r .returned ≡ prior .returned && calleeReturned p c m pc mask name count q ⌝ }
+    ensures raised { λ r.
+        let p = programIn (now (t .entry)) in
+        let c = claimIn (now (w .entry)) in
+        ⌜ ((k : ℕ) → has (r .raised) k ≡ has (prior .raised) k || leavesCallee p c mask name count k q) ⌝ }
 {
     let receivers = sets::leading(t, s, mask, name as usize, count as usize, q);
     if receivers.subset(Mask { bits: 0 }) {
@@ -70,9 +79,18 @@ fn take_callees(
     register: u8,
 ) -> Callees
     requires { ⌜ (pc < 32) × (now s ≡ setsOf (programIn (now t))) ⌝ }
-    ensures given { λ r. ⌜ r .given ≡ every (methodCount (programIn (now (t .entry)))) (calleeGiven (programIn (now (t .entry))) (claimIn (now (w .entry))) m pc mask name count register) ⌝ }
-    ensures returned { λ r. ⌜ r .returned ≡ every (methodCount (programIn (now (t .entry)))) (calleeReturned (programIn (now (t .entry))) (claimIn (now (w .entry))) m pc mask name count) ⌝ }
-    ensures raised { λ r. ⌜ ((k : ℕ) → has (r .raised) k ≡ some (methodCount (programIn (now (t .entry)))) (leavesCallee (programIn (now (t .entry))) (claimIn (now (w .entry))) mask name count k)) ⌝ }
+    ensures given { λ r.
+        let p = programIn (now (t .entry)) in
+        let c = claimIn (now (w .entry)) in
+        ⌜ r .given ≡ every (methodCount p) (calleeGiven p c m pc mask name count register) ⌝ }
+    ensures returned { λ r.
+        let p = programIn (now (t .entry)) in
+        let c = claimIn (now (w .entry)) in
+        ⌜ r .returned ≡ every (methodCount p) (calleeReturned p c m pc mask name count) ⌝ }
+    ensures raised { λ r.
+        let p = programIn (now (t .entry)) in
+        let c = claimIn (now (w .entry)) in
+        ⌜ ((k : ℕ) → has (r .raised) k ≡ some (methodCount p) (leavesCallee p c mask name count k)) ⌝ }
 {
     let n = program::method_count(t);
     let none = Mask { bits: 0 };
@@ -100,7 +118,10 @@ pub fn by_receiver(
     register: u8,
 ) -> usize
     requires { ⌜ (pc < 32) × (now s ≡ setsOf (programIn (now t))) ⌝ }
-    ensures value { λ r. ⌜ r ≡ brokenIn (claimIn (now (w .entry))) (rulesOf (programIn (now (t .entry))) m pc (InvokeVirtual name count register)) ⌝ }
+    ensures value { λ r.
+        let p = programIn (now (t .entry)) in
+        let c = claimIn (now (w .entry)) in
+        ⌜ r ≡ brokenIn c (rulesOf p m pc (InvokeVirtual name count register)) ⌝ }
 {
     let mask = slots::register(w, m, pc, register as usize);
     let callees = take_callees(t, w, s, m, pc, mask, name, count, register);
@@ -123,7 +144,10 @@ pub fn by_method(
     register: u8,
 ) -> usize
     requires { ⌜ (pc < 32) × (now s ≡ setsOf (programIn (now t))) ⌝ }
-    ensures value { λ r. ⌜ r ≡ brokenIn (claimIn (now (w .entry))) (rulesOf (programIn (now (t .entry))) m pc (InvokeStatic method count register)) ⌝ }
+    ensures value { λ r.
+        let p = programIn (now (t .entry)) in
+        let c = claimIn (now (w .entry)) in
+        ⌜ r ≡ brokenIn c (rulesOf p m pc (InvokeStatic method count register)) ⌝ }
 {
     let q = method as usize;
     let given = carry::arguments(t, w, m, pc, q, 0, count, register);

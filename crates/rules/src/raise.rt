@@ -4,11 +4,8 @@ use mask::Mask;
 ghost use mathlib.Core.Path.{_≡_};
 ghost use mathlib.Core.Bool.{_&&_, _||_};
 ghost use Prim.Native.Nat.{ℕ};
-ghost use lib.Dec.{ltb};
-ghost use Rattle.mask.specs.Mask.{has, subset};
-ghost use Rattle.program.specs.Program.{classCount};
+ghost use Rattle.mask.specs.Mask.{subset};
 ghost use Rattle.program.specs.Tables.{programIn};
-ghost use Rattle.search.specs.Search.{catches};
 ghost use Rattle.flow.specs.Claim.{resultAt};
 ghost use Rattle.flow.specs.Flows.{kept};
 ghost use Rattle.flow.specs.Rules.{carried};
@@ -16,24 +13,12 @@ ghost use Rattle.slots.specs.Layout.{maskOf, claimIn};
 ghost use Rattle.sets.specs.Sets.{setsOf};
 ghost use Rattle.rules.specs.Broken.{raisedRule};
 
-// The classes in a mask that handler h catches at an address.
-fn caught(t: &[u64; 768], s: &[u64; 80], m: usize, pc: usize, mask: Mask, h: usize) -> Mask
-    requires { ⌜ now s ≡ setsOf (programIn (now t)) ⌝ }
-    ensures bits { λ r. ⌜ ((k : ℕ) → has r k ≡ has mask k && (ltb k (classCount (programIn (now (t .entry)))) && catches (programIn (now (t .entry))) m pc k h)) ⌝ }
-{
-    if pc < program::handler_from(t, m, h) {
-        return Mask { bits: 0 };
-    }
-    if pc < program::handler_to(t, m, h) {
-        mask.common(sets::below(s, program::handler_class(t, m, h)))
-    } else {
-        Mask { bits: 0 }
-    }
-}
-
 // Whether registers go into an address, and the classes in a mask into its result, if there are any.
 fn goes_into(t: &[u64; 768], w: &[u64; 9712], m: usize, pc: usize, mask: Mask, to: usize) -> bool
-    ensures value { λ r. ⌜ r ≡ subset mask (maskOf 0) || (kept (claimIn (now (w .entry))) (carried (programIn (now (t .entry))) m pc to) && subset mask (claimIn (now (w .entry)) (resultAt m to))) ⌝ }
+    ensures value { λ r.
+        let p = programIn (now (t .entry)) in
+        let c = claimIn (now (w .entry)) in
+        ⌜ r ≡ subset mask (maskOf 0) || (kept c (carried p m pc to) && subset mask (c (resultAt m to))) ⌝ }
 {
     if mask.subset(Mask { bits: 0 }) {
         return true;
@@ -61,7 +46,7 @@ pub fn raised(
     let mut rest = mask.common(sets::classes(s));
     let mut h: usize = 0;
     while h < n {
-        let taken = caught(t, s, m, pc, rest, h);
+        let taken = sets::caught(t, s, m, pc, rest, h);
         if !goes_into(t, w, m, pc, taken, program::handler_target(t, m, h)) {
             return 9;
         }

@@ -1,17 +1,12 @@
 // Rules of instructions that write no register: where they go on to, what they store, return and throw.
 use crate::raise;
-use mask::Mask;
 ghost use mathlib.Core.Path.{_≡_};
-ghost use mathlib.Core.Bool.{_&&_};
 ghost use mathlib.Core.List.{[], _∷_};
 ghost use Prim.Native.Nat.{ℕ, _<_};
-ghost use lib.Dec.{ltb};
 ghost use Rattle.instruction.specs.Word.{pick};
 ghost use Rattle.instruction.specs.declared.Instruction.the-variants.{Iput, Sput, Return, ReturnVoid, Throw};
 ghost use Rattle.mask.specs.Mask.{has};
-ghost use Rattle.program.specs.Program.{classCount};
 ghost use Rattle.program.specs.Tables.{programIn};
-ghost use Rattle.search.specs.Search.{hasField};
 ghost use Rattle.flow.specs.Rules.{toNext, toTarget, rulesOf};
 ghost use Rattle.slots.specs.Layout.{claimIn};
 ghost use Rattle.sets.specs.Sets.{setsOf};
@@ -39,21 +34,16 @@ pub fn to_target(t: &[u64; 768], w: &[u64; 9712], m: usize, pc: usize, target: u
 
 pub fn to_both(t: &[u64; 768], w: &[u64; 9712], m: usize, pc: usize, target: u32) -> usize
     requires { ⌜ pc < 32 ⌝ }
-    ensures value { λ r. ⌜ r ≡ brokenIn (claimIn (now (w .entry))) (toNext (programIn (now (t .entry))) m pc ∷ toTarget (programIn (now (t .entry))) m pc target ∷ []) ⌝ }
+    ensures value { λ r.
+        let p = programIn (now (t .entry)) in
+        let c = claimIn (now (w .entry)) in
+        ⌜ r ≡ brokenIn c (toNext p m pc ∷ toTarget p m pc target ∷ []) ⌝ }
 {
     first(
         carry::onward(t, w, m, pc, pc + 1),
         2,
         to_target(t, w, m, pc, target),
     )
-}
-
-// The classes in a mask that have a field.
-pub fn with_field(t: &[u64; 768], s: &[u64; 80], mask: Mask, field: u8) -> Mask
-    requires { ⌜ now s ≡ setsOf (programIn (now t)) ⌝ }
-    ensures bits { λ r. ⌜ ((k : ℕ) → has r k ≡ has mask k && (ltb k (classCount (programIn (now (t .entry)))) && hasField (programIn (now (t .entry))) k field)) ⌝ }
-{
-    mask.common(sets::below(s, program::field_class(t, field as usize)))
 }
 
 pub fn field_written(
@@ -71,7 +61,7 @@ pub fn field_written(
 {
     let mask = slots::register(w, m, pc, object as usize);
     let value = slots::register(w, m, pc, from as usize);
-    let having = with_field(t, s, mask, field);
+    let having = sets::with_field(t, s, mask, field);
     let stored = classes::into_fields(w, having, field as usize, value);
     first(carry::onward(t, w, m, pc, pc + 1), 2, first(stored, 5, 11))
 }

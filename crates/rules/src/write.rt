@@ -1,13 +1,11 @@
 // Rules of instructions that write a register (2 and 4).
 use crate::step::first;
-use crate::step::with_field;
 use mask::Mask;
 use operands::both;
 ghost use mathlib.Core.Path.{_≡_};
 ghost use mathlib.Core.Bool.{not, _&&_, _||_};
-ghost use mathlib.Core.List.{[], _∷_};
 ghost use Prim.Native.Nat.{ℕ, _<_};
-ghost use Rattle.instruction.specs.declared.Instruction.the-variants.{Move, Const, NewInstance, Iget, Sget, MoveResult, InstanceOf, CheckCast};
+ghost use Rattle.instruction.specs.declared.Instruction.the-variants.{Move, Const, NewInstance, Iget, Sget, MoveResult, CheckCast};
 ghost use Rattle.mask.specs.Mask.{has, hasNumber};
 ghost use Rattle.program.specs.Tables.{programIn};
 ghost use Rattle.flow.specs.Claim.{registerAt, numberBit};
@@ -83,7 +81,10 @@ pub fn binary(
     right: u8,
 ) -> usize
     requires { ⌜ pc < 32 ⌝ }
-    ensures value { λ r. ⌜ r ≡ brokenIn (claimIn (now (w .entry))) (writes (programIn (now (t .entry))) m pc to (numeric (registerAt m pc left) (numeric (registerAt m pc right) (numbersInto (programIn (now (t .entry))) m pc to)))) ⌝ }
+    ensures value { λ r.
+        let p = programIn (now (t .entry)) in
+        let c = claimIn (now (w .entry)) in
+        ⌜ r ≡ brokenIn c (writes p m pc to (numeric (registerAt m pc left) (numeric (registerAt m pc right) (numbersInto p m pc to)))) ⌝ }
 {
     let a = slots::register(w, m, pc, left as usize);
     let b = slots::register(w, m, pc, right as usize);
@@ -114,7 +115,7 @@ pub fn field_read(
 {
     let mask = slots::register(w, m, pc, object as usize);
     let into = slots::register(w, m, pc + 1, to as usize);
-    let having = with_field(t, s, mask, field);
+    let having = sets::with_field(t, s, mask, field);
     let read = classes::from_fields(w, having, field as usize, into);
     written(t, w, m, pc, to, read)
 }
@@ -140,7 +141,10 @@ pub fn result_read(t: &[u64; 768], w: &[u64; 9712], m: usize, pc: usize, to: u8)
 
 pub fn numbers(t: &[u64; 768], w: &[u64; 9712], m: usize, pc: usize, to: u8) -> usize
     requires { ⌜ pc < 32 ⌝ }
-    ensures value { λ r. ⌜ r ≡ brokenIn (claimIn (now (w .entry))) (writes (programIn (now (t .entry))) m pc to (numbersInto (programIn (now (t .entry))) m pc to)) ⌝ }
+    ensures value { λ r.
+        let p = programIn (now (t .entry)) in
+        let c = claimIn (now (w .entry)) in
+        ⌜ r ≡ brokenIn c (writes p m pc to (numbersInto p m pc to)) ⌝ }
 {
     let into = slots::register(w, m, pc + 1, to as usize);
     written(t, w, m, pc, to, both_numbers(into))
@@ -163,7 +167,10 @@ pub fn cast(
     class: u8,
 ) -> usize
     requires { ⌜ (pc < 32) × (now s ≡ setsOf (programIn (now t))) ⌝ }
-    ensures value { λ r. ⌜ r ≡ brokenIn (claimIn (now (w .entry))) (rulesOf (programIn (now (t .entry))) m pc (CheckCast register class)) ⌝ }
+    ensures value { λ r.
+        let p = programIn (now (t .entry)) in
+        let c = claimIn (now (w .entry)) in
+        ⌜ r ≡ brokenIn c (rulesOf p m pc (CheckCast register class)) ⌝ }
 {
     let mask = slots::register(w, m, pc, register as usize);
     let into = slots::register(w, m, pc + 1, register as usize);

@@ -14,7 +14,7 @@ use Rattle.instruction.proofs.Flags.{both-true}
 use Rattle.mask.specs.declared.Mask.{Mask}
 use Rattle.mask.specs.Mask.{has}
 use Rattle.mask.proofs.Laws.{past-has, and-false}
-use Rattle.mask.proofs.Sets.{no-bit, where-has, has-where}
+use Rattle.mask.proofs.Sets.{and-end, no-bit, where-has, has-where}
 use Rattle.program.specs.Lists.{tab}
 use Rattle.program.specs.Program.{Program, classCount, methodCount, methodName, methodKind, methodClass, arguments}
 use Rattle.program.proofs.Lists.{getD-tab, tab-cong, tab-getD}
@@ -26,10 +26,6 @@ use Rattle.slots.specs.Layout.{maskOf, maskAt}
 use Rattle.sets.specs.Sets.{leads, isIn, setWord, setsOf}
 use Rattle.sets.specs.Inside.{named, belowSet, classSet, leadingSet}
 use Rattle.sets.proofs.Upward.{below-less}
-
-and-end : (a : Bool) → a && true ≡ a
-and-end true = refl
-and-end false = refl
 
 module _ (p : Program) where
   -- ---- the sets by their test

@@ -6,7 +6,7 @@ use mathlib.Core.List.{List}
 use mathlib.Core.Logic.{_≢_}
 use Prim.Native.Nat.{ℕ, _+_, _*_, _-_, _/_, _%_, _≤_, _<_}
 use native.Mathlib.Omega.{arith}
-use lib.Dec.{eqb, ltb}
+use lib.Dec.{ltb}
 use lib.ListN.{length, set}
 use lib.Seq.{getD-set-same, getD-set-other}
 use borrow.Author.Tests.{ltb-true, ltb-false, lt-ltb, le-ltb, ne-eqb}
@@ -14,7 +14,7 @@ use Rattle.text.proofs.Cases.{by-test}
 use Rattle.instruction.specs.Word.{pick}
 use Rattle.instruction.proofs.Flags.{both-true}
 use Rattle.flow.specs.Claim.{Slot, registerAt, resultAt, fieldOf, staticOf, returnedBy, leaving}
-use Rattle.slots.specs.Layout.{claimSize, rowOf, placeOf, maskOf, claimIn}
+use Rattle.slots.specs.Layout.{claimSize, rowOf, placeOf, slotOfRow, slotAt, maskOf, claimIn}
 
 -- ---- the rows
 pub row-in : (m pc : ℕ) → m < 16 → pc < 32 → rowOf m pc ≡ (m * 32 + pc) * 17
@@ -37,19 +37,7 @@ row-most m pc =
     (λ h. omega (arith, row-address m pc (ltb-false pc 32 h))))
     (λ t. omega (arith, row-method m pc (ltb-false m 16 t)))
 
--- ---- the slot at a place
--- word x of the row of address pc of method m
-abbrev slotOfRow : ℕ → ℕ → ℕ → Slot
-slotOfRow m pc x = pick (eqb x 16) (resultAt m pc) (registerAt m pc x)
-
-abbrev slotAt : ℕ → Slot
-slotAt i =
-    pick (ltb i 8704) (slotOfRow (i / 544) (i / 17 % 32) (i % 17))
-    (pick (ltb i 9664) (fieldOf ((i - 8704) / 16) ((i - 8704) % 16))
-    (pick (ltb i 9680) (staticOf (i - 9664))
-    (pick (ltb i 9696) (returnedBy (i - 9680)) (leaving (i - 9696)))))
-
--- ---- in each range
+-- ---- the slot at a place, in each range
 row-back : (m pc x : ℕ) → x ≤ 16 → rowOf m pc + x < claimSize → slotAt (rowOf m pc + x) ≡ slotOfRow m pc x
 row-back m pc x few l =
     by-test (ltb m 16)
@@ -98,7 +86,7 @@ chosen-back true i s f l = f refl l
 chosen-back false i s f l = absurd (omega arith)
 
 -- ---- every slot inside the words
-place-back : (s : Slot) → placeOf s < claimSize → slotAt (placeOf s) ≡ s
+pub place-back : (s : Slot) → placeOf s < claimSize → slotAt (placeOf s) ≡ s
 unfolding placeOf
 place-back (registerAt m pc r) l =
     chosen-back (ltb r 16) (rowOf m pc + r) (registerAt m pc r)

@@ -9,8 +9,8 @@
 -- proved (proofs/Places.antt).
 use mathlib.Core.Bool.{_&&_}
 use mathlib.Core.List.{List}
-use Prim.Native.Nat.{ℕ, _+_, _*_}
-use lib.Dec.{ltb}
+use Prim.Native.Nat.{ℕ, _+_, _*_, _-_, _/_, _%_}
+use lib.Dec.{eqb, ltb}
 use lib.ListN.{getD, replicate}
 use Rattle.instruction.specs.Word.{pick}
 use Rattle.mask.specs.declared.Mask.{Mask}
@@ -32,6 +32,17 @@ placeOf (fieldOf c x) = pick (ltb c 60 && ltb x 16) (8704 + c * 16 + x) claimSiz
 placeOf (staticOf x) = pick (ltb x 16) (9664 + x) claimSize
 placeOf (returnedBy m) = pick (ltb m 16) (9680 + m) claimSize
 placeOf (leaving m) = pick (ltb m 16) (9696 + m) claimSize
+
+-- the slot at a place (the inverse of placeOf): at word x of the row of address pc of method m, and at any
+abbrev pub slotOfRow : ℕ → ℕ → ℕ → Slot
+slotOfRow m pc x = pick (eqb x 16) (resultAt m pc) (registerAt m pc x)
+
+abbrev pub slotAt : ℕ → Slot
+slotAt i =
+    pick (ltb i 8704) (slotOfRow (i / 544) (i / 17 % 32) (i % 17))
+    (pick (ltb i 9664) (fieldOf ((i - 8704) / 16) ((i - 8704) % 16))
+    (pick (ltb i 9680) (staticOf (i - 9664))
+    (pick (ltb i 9696) (returnedBy (i - 9680)) (leaving (i - 9696)))))
 
 -- the mask with these bits
 abbrev pub maskOf : ℕ → Mask

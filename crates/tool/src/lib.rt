@@ -18,11 +18,18 @@ fn space() -> [u8; 65537]
     [0; 65537]
 }
 
-// Room for what is printed, and for what is told.
+// Room for what is printed of a verdict or a run, and for what is told.
 fn page() -> [u8; report::LONGEST]
     ensures length { λ r. ⌜ 73737 ≡ length r ⌝ }
 {
     [0; report::LONGEST]
+}
+
+// Room for the text of the longest claim.
+fn claim_page() -> [u8; 165936]
+    ensures length { λ r. ⌜ 165936 ≡ length r ⌝ }
+{
+    [0; 165936]
 }
 
 fn line() -> [u8; 256]
@@ -71,6 +78,18 @@ fn answer_run(panel: &[u8], steps: u64, told: i32) {
     io::write_all(told, &words[..k]);
 }
 
+// Prints the claim of a panel, or its refusal, which it tells in words.
+fn answer_panel(panel: &[u8], told: i32) {
+    let mut out = claim_page();
+    let mut words = line();
+    let table = phrases::table();
+    let response = response::of_panel(panel, &table, &mut out, &mut words);
+    let n = within(response.printed, &out);
+    print(&out[..n]);
+    let k = within(response.told, &words);
+    io::write_all(told, &words[..k]);
+}
+
 fn check_with(panel: &[u8], claim_name: &[u8], tell: bool, told: i32) {
     let mut claim = space();
     let got = read_file(claim_name, &mut claim, told);
@@ -97,11 +116,21 @@ fn step(steps: u64, panel_name: &[u8], told: i32) {
     }
 }
 
+// Writes the claim of a file.
+fn claim(panel_name: &[u8], told: i32) {
+    let mut panel = space();
+    let got = read_file(panel_name, &mut panel, told);
+    if let Got::Bytes(n) = got {
+        answer_panel(&panel[..n], told);
+    }
+}
+
 fn help() {
     print(
         b"hudzmoke                      prints the verdict on claim.txt, a claim about panel.txt, both in this folder\n\
         hudzmoke check PANEL CLAIM    the same for two files by name; what is wrong is told in words on standard error\n\
         hudzmoke step N [PANEL]       runs PANEL, or panel.txt, for at most N steps and prints how that ended and the state\n\
+        hudzmoke claim [PANEL]        prints the least claim about PANEL, or panel.txt, that is accepted\n\
         hudzmoke help                 prints this, as --help and -h do\n\
         Numbers are printed in hexadecimal and told in decimal. docs/FORMATS.md says what each printed line means.\n",
     );
@@ -110,7 +139,7 @@ fn help() {
 fn usage(told: i32) {
     io::write_all(
         told,
-        b"usage: hudzmoke [check PANEL CLAIM | step N [PANEL] | help]\n",
+        b"usage: hudzmoke [check PANEL CLAIM | step N [PANEL] | claim [PANEL] | help]\n",
     );
 }
 
@@ -130,6 +159,13 @@ pub fn obey(count: usize, first: &[u8], second: &[u8], third: &[u8], told: i32) 
                 step(steps, third, told);
             } else {
                 step(steps, b"panel.txt", told);
+            }
+        }
+        Command::Claim { named } => {
+            if named {
+                claim(second, told);
+            } else {
+                claim(b"panel.txt", told);
             }
         }
         Command::Help => help(),

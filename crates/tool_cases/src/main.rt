@@ -104,6 +104,18 @@ fn runs() {
     nine(b"fault8.panel");
 }
 
+// Claims that are written, of the sample and of other panels, and refusals of a panel.
+fn claims() {
+    one(b"claim");
+    two(b"claim", b"rules.panel");
+    two(b"claim", b"example.panel");
+    two(b"claim", b"long.claim");
+    two(b"claim", b"falls.panel");
+    two(b"claim", b"missing.panel");
+    two(b"claim", b".");
+    ask(3, b"claim", b"panel.txt", b"claim.txt");
+}
+
 // The example that docs/FORMATS.md explains line by line, with a claim that forgets the exception at its handler.
 fn example() {
     check(b"example.panel", b"example.claim");
@@ -135,6 +147,7 @@ fn main() {
     rules();
     refusals();
     runs();
+    claims();
     example();
     words();
 }

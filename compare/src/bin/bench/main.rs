@@ -1,5 +1,5 @@
-//! Measures the proved implementation beside this one: runs, reading and
-//! checking, of small, usual and the largest inputs. Both do everything in
+//! Measures the proved implementation beside this one: runs, reading, checking
+//! and writing, of small, usual and the largest inputs. Both do everything in
 //! turn, and their answers and memory must agree.
 
 mod checks;
@@ -9,6 +9,7 @@ mod measure;
 mod programs;
 mod readings;
 mod runs;
+mod writes;
 
 use measure::Times;
 
@@ -25,6 +26,8 @@ fn main() {
     checks.iter().for_each(|measured| print(measured, Measured::micros));
     heading("checking, MB/s (bytes of texts)");
     checks.iter().for_each(|measured| print(measured, Measured::speed));
+    heading("writing, µs (bytes of memory)");
+    writes::all().iter().map(writes::measure).for_each(|it| print(&it, Measured::micros));
 }
 
 /// What both took for so many calls, each of which goes through `size` steps

@@ -1,7 +1,8 @@
-//! Programs without end, each busy with one kind of instruction.
+//! Programs without end, each busy with one kind of instruction, and one that
+//! does nothing.
 
 use compare::assembly::*;
-use compare::program::{Handler, Program};
+use compare::program::{Handler, Method, Program, STATIC};
 
 pub fn all() -> Vec<(&'static str, Program)> {
     vec![
@@ -135,4 +136,13 @@ pub fn mixed() -> Program {
         static_method(2, 1, 1, vec![throw(0)]),
     ];
     program(&[0, 0, 0, 1], &[2], 1, methods)
+}
+
+/// As many masks as there can be, and nothing but zero in them.
+pub fn idle() -> Program {
+    let method = |number: u8| {
+        let code = [vec![nop(); 31], vec![return_void()]].concat();
+        Method::new(0, number, STATIC, 16, 0).with_code(code)
+    };
+    program(&[0; 59], &[0; 16], 16, (0..16).map(method).collect())
 }

@@ -41,9 +41,11 @@ fn description(case: &Case, difference: Option<&Difference>) -> String {
         ("objects lent", lent.objects as u64),
         ("statics lent", lent.statics as u64),
         ("memory of the checker lent", lent.memory as u64),
+        ("memory of the writer lent", lent.text as u64),
         ("answer of the reader lent", lent.read_answer as u64),
         ("answer of the stepper lent", lent.step_answer as u64),
         ("answer of the checker lent", lent.check_answer as u64),
+        ("answer of the writer lent", lent.write_answer as u64),
         ("salt of the memory", case.salt),
         ("steps followed", case.follow),
     ];

@@ -3,7 +3,9 @@
 use super::library;
 use compare::fuzz::differ::{difference, follow, Difference};
 use compare::fuzz::left::{Expected, Left};
-use compare::fuzz::table::Table;
+use compare::fuzz::lengths::ANSWER;
+use compare::fuzz::table::{Found, Table};
+use compare::fuzz::written::{accepted, within, written, Checked};
 use compare::fuzz::Case;
 use compare::machine::structs::Structs;
 use std::panic::{catch_unwind, AssertUnwindSafe};
@@ -24,9 +26,26 @@ fn compared(case: &Case, table: &mut Table) -> Result<(), Difference> {
     if let Some(difference) = difference(&expected.left, &got) {
         return Err(difference);
     }
-    let followed = follow(case, &expected, &got)?;
-    table.add_case(case, &expected, followed);
+    let found = Found {
+        followed: follow(case, &expected, &got)?,
+        written_calls: check_written(case, &expected, &got)?,
+        is_least: within(case, &expected, &got)?,
+    };
+    table.add_case(case, &expected, &found);
     Ok(())
+}
+
+/// Both check the claim that was written: the calls they list.
+fn check_written(case: &Case, expected: &Expected, got: &Left) -> Result<usize, Difference> {
+    let Some(claim) = written(expected, got) else {
+        return Ok(0);
+    };
+    let by_library = Checked::by(|memory| {
+        let mut answer = [0; ANSWER];
+        library::check(&case.program, claim, memory, &mut answer);
+        answer
+    });
+    accepted(&Checked::of(&case.program, claim), &by_library)
 }
 
 /// What the calls of the proved implementation leave; `left` is as before
@@ -45,6 +64,11 @@ fn proved(case: &Case, mut left: Left) -> Left {
         left.memory.lent_mut(),
         left.check_answer.lent_mut(),
     );
-    left.numbers = [read, step, check];
+    let write = library::write_claim(
+        left.program.lent(),
+        left.text.lent_mut(),
+        left.write_answer.lent_mut(),
+    );
+    left.numbers = [read, step, check, write];
     left
 }

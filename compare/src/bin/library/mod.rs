@@ -34,6 +34,15 @@ extern "C" {
         answer: *mut u64,
         answer_length: usize,
     ) -> u64;
+
+    fn hudzmoke_write_claim(
+        program: *const u8,
+        program_length: usize,
+        memory: *mut u8,
+        memory_length: usize,
+        answer: *mut u64,
+        answer_length: usize,
+    ) -> u64;
 }
 
 /// Gives the number. An answer of five words or more gets number, steps (or
@@ -79,6 +88,23 @@ pub fn check(program: &[u8], claim: &[u8], memory: &mut [u8], answer: &mut [u64]
             program.len(),
             claim.as_ptr(),
             claim.len(),
+            memory.as_mut_ptr(),
+            memory.len(),
+            answer.as_mut_ptr(),
+            answer.len(),
+        )
+    }
+}
+
+/// Gives the number. An answer of five words or more gets number, the text's
+/// length (36, written) or the line, 0, 0, 0.
+pub fn write_claim(program: &[u8], memory: &mut [u8], answer: &mut [u64]) -> u64 {
+    // SAFETY: each pointer is that of a slice of the length beside it, and the
+    // slices that are written lie apart from the other.
+    unsafe {
+        hudzmoke_write_claim(
+            program.as_ptr(),
+            program.len(),
             memory.as_mut_ptr(),
             memory.len(),
             answer.as_mut_ptr(),

@@ -47,20 +47,12 @@ returns-6 : tie.Need-returns-6
 returns-6 c =
     rw (ne-eqb _ 0 (c .before .before .before .before .before .before .before .before .if1 .left), sym (c .before .before .before .before .before .before .equal .ensures) ∙ c .before .before .before .before .before .if2 .left, sym (c .before .before .before .equal2 .ensures) ∙ c .before .before .if4 .taken, ne-eqb _ 2 (c .before .if5 .left), ne-eqb _ 3 (c .if6 .left))
 
-asks-help-requires : tie.Need-asks-help-requires
-asks-help-requires c κs = search needs
+other-of-requires : tie.Need-other-of-requires
+other-of-requires c κs = search needs
 
 returns-7 : tie.Need-returns-7
 returns-7 c =
-    rw (ne-eqb _ 0 (c .before .before .before .before .before .before .before .before .before .if1 .left), sym (c .before .before .before .before .before .before .before .equal .ensures) ∙ c .before .before .before .before .before .before .if2 .left, sym (c .before .before .before .before .equal2 .ensures) ∙ c .before .before .before .if4 .left, sym (c .before .before .asks-help .ensures) ∙ c .before .if7 .taken, eq-eqb _ 1 (c .if8 .taken))
-
-returns-8 : tie.Need-returns-8
-returns-8 c =
-    rw (ne-eqb _ 0 (c .before .before .before .before .before .before .before .before .before .if1 .left), sym (c .before .before .before .before .before .before .before .equal .ensures) ∙ c .before .before .before .before .before .before .if2 .left, sym (c .before .before .before .before .equal2 .ensures) ∙ c .before .before .before .if4 .left, sym (c .before .before .asks-help .ensures) ∙ c .before .if7 .taken, ne-eqb _ 1 (c .if8 .left))
-
-returns-9 : tie.Need-returns-9
-returns-9 c =
-    rw (ne-eqb _ 0 (c .before .before .before .before .before .before .before .before .if1 .left), sym (c .before .before .before .before .before .before .equal .ensures) ∙ c .before .before .before .before .before .if2 .left, sym (c .before .before .before .equal2 .ensures) ∙ c .before .before .if4 .left, sym (c .before .asks-help .ensures) ∙ c .if7 .left)
+    rw (ne-eqb _ 0 (c .before .before .before .before .before .before .before .if1 .left), sym (c .before .before .before .before .before .equal .ensures) ∙ c .before .before .before .before .if2 .left, sym (c .before .before .equal2 .ensures) ∙ c .before .if4 .left) (c .other-of .ensures)
 
 pub command-of-spec : {M : Type 1} → statement M
 command-of-spec =
@@ -78,7 +70,5 @@ command-of-spec =
     step-for-requires-2
     returns-5
     returns-6
-    asks-help-requires
-    returns-7
-    returns-8
-    returns-9)
+    other-of-requires
+    returns-7)

@@ -1,35 +1,26 @@
--- `rules::raise::raised` meets its contract. The loop's invariant: the rest is what the handlers before the next one do not catch, and rule 9 holds for what they do. Assumes nothing.
+-- `rules::raise::raised` meets its contract. The loop's invariant: the rest is what the handlers before the next one do not catch, and
+-- rule 9 holds for what they do. Assumes nothing.
 use mathlib.Core.Path.{_≡_, sym, ap, _∙_}
 use mathlib.Core.Bool.{true, false, _&&_, _||_}
-use mathlib.Core.List.{List}
-use Prim.Native.Nat.{ℕ, _-_, _≤_}
+use Prim.Native.Nat.{_-_, _≤_}
 use native.Mathlib.Omega.{arith}
 use borrow.Author.Tests.{not-true, not-false}
-use Rattle.mask.specs.declared.Mask.{Mask}
-use Rattle.mask.specs.Mask.{has, subset}
-use lib.Dec.{ltb}
-use Rattle.program.specs.Program.{classCount, handlerCount, handlerTarget}
+use Rattle.mask.specs.Mask.{subset}
+use Rattle.program.specs.Program.{handlerCount, handlerTarget}
 use Rattle.program.specs.Tables.{programIn}
-use Rattle.program.proofs.Read.{classes-limit}
 use Rattle.flow.specs.Claim.{resultAt, leaving}
 use Rattle.flow.specs.Flows.{kept}
 use Rattle.flow.specs.Rules.{carried}
 use Rattle.slots.specs.Layout.{maskOf, claimIn}
-use Rattle.sets.specs.Sets.{setsOf}
-use Rattle.sets.specs.Inside.{classSet}
-use Rattle.sets.proofs.Words.{classes-has}
-use Rattle.rules.proofs.Handlers.{only-classes, same-raised, Rest, Held, rest-start, held-start, rest-more, held-more, broken-here, raised-is}
+use Rattle.sets.proofs.Handlers.{all-classes, only-classes, Rest, rest-start, rest-more}
+use Rattle.rules.proofs.Handlers.{same-raised, Held, held-start, held-more, broken-here, raised-is}
 use Rattle.rules.proofs.raise.raised.Statement.{statement}
 use Rattle.rules.proofs.raise.raised.Tie as tie
-
-all-classes : (t s : List ℕ) (classes : Mask) → classes ≡ classSet s → s ≡ setsOf (programIn t) → (k : ℕ) → has classes k ≡ ltb k (classCount (programIn t))
-all-classes t s classes e f k =
-    ap (λ (x : Mask). has x k) e ∙ ap (λ (ws : List ℕ). has (classSet ws) k) f ∙ classes-has (programIn t) (classes-limit t) k
 
 abbrev Inv-loop : tie.InvT-loop
 Inv-loop t w s m pc n rest₀ h₀ rest h =
     (h ≤ n)
-    × Rest (programIn t) (claimIn w) m pc rest₀ h rest
+    × Rest (programIn t) m pc rest₀ h rest
     × Held (programIn t) (claimIn w) m pc rest₀ h
 
 abbrev μ-loop : tie.MeasureT-loop
@@ -52,14 +43,14 @@ loop-holds c =
     let cl = claimIn (a .w .now) in
     let rest = c .common .result in (
       omega arith,
-      rest-start p cl (a .m) (a .pc) rest
+      rest-start p (a .m) (a .pc) rest
           (only-classes p (a .mask) rest (c .before .classes .result) (c .common .ensures)
           (all-classes (a .t .now) (a .s .now) (c .before .classes .result) (c .before .classes .ensures) (start .pre))),
       held-start p cl (a .m) (a .pc) rest,
     )
 
 caught-requires : tie.Need-caught-requires Inv-loop μ-loop
-caught-requires c κs = c .before .before .before .before .before .pre
+caught-requires c κs = tt
 
 handler-target-requires : tie.Need-handler-target-requires Inv-loop μ-loop
 handler-target-requires c κs = tt
@@ -76,11 +67,14 @@ returns c =
     let p = programIn (a .t .now) in
     let cl = claimIn (a .w .now) in
     let x = g .before .before .caught in
-    let no : subset (x .result) (maskOf 0) || (kept cl (carried p (a .m) (a .pc) (handlerTarget p (a .m) (b .loop .h))) && subset (x .result) (cl (resultAt (a .m) (handlerTarget p (a .m) (b .loop .h))))) ≡ false =
+    let bits = x .ensures (n .before .pre) in
+    let to = handlerTarget p (a .m) (b .loop .h) in
+    let no : subset (x .result) (maskOf 0)
+    || (kept cl (carried p (a .m) (a .pc) to) && subset (x .result) (cl (resultAt (a .m) to))) ≡ false =
     rw (← g .before .handler-target .ensures) (sym (g .goes-into .ensures) ∙ not-true _ (c .if1 .taken)) in
     let rest = b .before .common .result in
     sym
-    (broken-here p cl (a .m) (a .pc) rest (b .loop .h) (b .loop .rest) (x .result) (b .loop .inv .1) (x .ensures)
+    (broken-here p cl (a .m) (a .pc) rest (b .loop .h) (b .loop .rest) (x .result) (b .loop .inv .1) bits
     (omega (arith, n .handler-count .ensures))
     no)
     ∙ same-raised p (a .mask) rest (b .before .before .classes .result) (b .before .common .ensures)
@@ -107,13 +101,16 @@ loop-again c =
     let p = programIn (a .t .now) in
     let cl = claimIn (a .w .now) in
     let x = g .before .before .caught in
-    let ok : subset (x .result) (maskOf 0) || (kept cl (carried p (a .m) (a .pc) (handlerTarget p (a .m) (b .loop .h))) && subset (x .result) (cl (resultAt (a .m) (handlerTarget p (a .m) (b .loop .h))))) ≡ true =
+    let bits = x .ensures (n .before .pre) in
+    let to = handlerTarget p (a .m) (b .loop .h) in
+    let ok : subset (x .result) (maskOf 0)
+    || (kept cl (carried p (a .m) (a .pc) to) && subset (x .result) (cl (resultAt (a .m) to))) ≡ true =
     rw (← g .before .handler-target .ensures) (sym (g .goes-into .ensures) ∙ not-false _ (c .before .if1 .left)) in (
       omega arith,
-      rest-more p cl (a .m) (a .pc) (b .before .common .result) (b .loop .h) (b .loop .rest) (x .result) (b .loop .inv .1) (x .ensures)
+      rest-more p (a .m) (a .pc) (b .before .common .result) (b .loop .h) (b .loop .rest) (x .result) (b .loop .inv .1) bits
           (c .without .result)
           (c .without .ensures),
-      held-more p cl (a .m) (a .pc) (b .before .common .result) (b .loop .h) (b .loop .rest) (x .result) (b .loop .inv .1) (x .ensures)
+      held-more p cl (a .m) (a .pc) (b .before .common .result) (b .loop .h) (b .loop .rest) (x .result) (b .loop .inv .1) bits
           (omega (arith, n .handler-count .ensures))
           ok
           (b .loop .inv .2),

@@ -1,6 +1,7 @@
 -- `rules::step::field_written` meets its contract. Assumes nothing.
 use mathlib.Core.Path.{_≡_, _∙_}
-use mathlib.Core.Bool.{not, _||_}
+use mathlib.Core.Bool.{Bool, not, _||_}
+use Prim.Native.Nat.{ℕ}
 use native.Mathlib.Omega.{arith}
 use native.Mathlib.Numerals.{add-one}
 use Rattle.mask.specs.Mask.{has, every, subset}
@@ -22,7 +23,7 @@ register-requires-2 : tie.Need-register-requires-2
 register-requires-2 c κs = tt
 
 with-field-requires : tie.Need-with-field-requires
-with-field-requires c κs = c .before .before .pre .1
+with-field-requires c κs = tt
 
 into-fields-requires : tie.Need-into-fields-requires
 into-fields-requires c κs = tt
@@ -49,10 +50,14 @@ returns c =
     let p = programIn (a .t .now) in
     let cl = claimIn (a .w .now) in
     let into : f .into-fields .result ≡ intoFields cl (h .with-field .result) (a .field) (i .register2 .result) = f .into-fields .ensures in
-    let stored : f .into-fields .result ≡ every (classCount p) (λ k. not (has (r .register .result) k) || (not (hasField p k (a .field)) || subset (i .register2 .result) (cl (fieldOf k (a .field))))) =
+    let test : ℕ → Bool = λ k. subset (i .register2 .result) (cl (fieldOf k (a .field))) in
+    let stored : f .into-fields .result
+    ≡ every (classCount p) (λ k. not (has (r .register .result) k) || (not (hasField p k (a .field)) || test k)) =
     into
-    ∙ of-each (classCount p) (h .with-field .result) (r .register .result) (λ k. hasField p k (a .field)) (h .with-field .ensures) (classes-limit (a .t .now))
-    (λ k. subset (i .register2 .result) (cl (fieldOf k (a .field)))) in
+    ∙ of-each (classCount p) (h .with-field .result) (r .register .result) (λ k. hasField p k (a .field))
+    (h .with-field .ensures (r .before .pre .1))
+    (classes-limit (a .t .now))
+    test in
     rw (
       c .first2 .ensures,
       c .before .first .ensures,

@@ -10,7 +10,7 @@ use Rattle.program.specs.Tables.{programIn}
 use Rattle.search.specs.Search.{below}
 use Rattle.flow.specs.Claim.{registerAt}
 use Rattle.slots.specs.Layout.{claimIn}
-use Rattle.rules.proofs.Classes.{below-in}
+use Rattle.sets.proofs.Selected.{below-in}
 use Rattle.rules.proofs.Handlers.{thrown-raised}
 use Rattle.rules.proofs.step.thrown.Statement.{statement}
 use Rattle.rules.proofs.step.thrown.Tie as tie

@@ -8,7 +8,8 @@ use Rattle.program.specs.Program.{classCount}
 use Rattle.program.specs.Tables.{programIn}
 use Rattle.program.proofs.Read.{classes-limit}
 use Rattle.search.specs.Search.{below}
-use Rattle.rules.proofs.Classes.{below-in, of-subset}
+use Rattle.sets.proofs.Selected.{below-in}
+use Rattle.rules.proofs.Classes.{of-subset}
 use Rattle.rules.proofs.write.cast.Statement.{statement}
 use Rattle.rules.proofs.write.cast.Tie as tie
 

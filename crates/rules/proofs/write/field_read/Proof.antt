@@ -24,7 +24,7 @@ register-requires-2 : tie.Need-register-requires-2
 register-requires-2 c κs = tt
 
 with-field-requires : tie.Need-with-field-requires
-with-field-requires c κs = c .before .before .pre .1
+with-field-requires c κs = tt
 
 from-fields-requires : tie.Need-from-fields-requires
 from-fields-requires c κs = tt
@@ -43,7 +43,9 @@ returns c =
     c .written .ensures
     ∙ ap (written p cl (a .m) (a .pc) (a .to))
     (c .before .from-fields .ensures
-    ∙ of-each (classCount p) (h .with-field .result) (r .register .result) (λ k. hasField p k (a .field)) (h .with-field .ensures) (classes-limit (a .t .now))
+    ∙ of-each (classCount p) (h .with-field .result) (r .register .result) (λ k. hasField p k (a .field))
+    (h .with-field .ensures (r .before .pre .1))
+    (classes-limit (a .t .now))
     (λ k. subset (cl (fieldOf k (a .field))) (i .register2 .result)))
     ∙ rw (i .register2 .ensures, r .register .ensures, add-one (a .pc))
 

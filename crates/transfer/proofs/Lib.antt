@@ -1,0 +1,5 @@
+-- Laws of transfer functions: what is written, a register that holds another mask meanwhile, what is stored and thrown, and calls.
+mod Written
+mod Replaced
+mod Stored
+mod Called
