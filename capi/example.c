@@ -1,5 +1,5 @@
 /* A grading program's use of the library: reads panels, checks claims about one, prints the verdicts and the calls, writes a claim, and runs
- * panels for some steps and to their end. The sample and its claim are document 01's. */
+ * panels for some steps and to their end. The sample and its claim are document 01's, with the three class lines of document 02. */
 #include <inttypes.h>
 #include <stdio.h>
 #include <string.h>
@@ -17,6 +17,9 @@ _Static_assert(sizeof(hudzmoke_object) == 132, "an object has 132 bytes");
 static const char sample[] =
     "01ff\n"
     "0100\n"
+    "0101\n"
+    "0101\n"
+    "0101\n"
     "040000010100\n"
     "060d01000000000000\n"
     "061100000000000000\n"
@@ -42,24 +45,45 @@ static const char false_claim[] =
     "1500" NONE "\n"
     "1501" NONE "\n";
 
-/* Class 2 has a field, and there is a static: method 0 makes an object, puts 7 into its field and -5 into the static. */
+/* Class 5 has a field, and there is a static: method 0 makes an object, puts 7 into its field and -5 into the static. */
 static const char storing[] =
     "01ff\n"
     "0100\n"
+    "0101\n"
+    "0101\n"
+    "0101\n"
     "0100\n"
-    "0202\n"
+    "0205\n"
     "03\n"
     "040000010200\n"
-    "060700020000000000\n"
+    "060700050000000000\n"
     "060201000000000007\n"
     "060901000000000000\n"
     "0602010000fffffffb\n"
     "060b01000000000000\n"
     "061100000000000000\n";
 
+/* Method 0 reads field 0 of null: an object of class 2 is raised. The handler for that class puts it into register 1. */
+static const char raising[] =
+    "01ff\n"
+    "0100\n"
+    "0101\n"
+    "0101\n"
+    "0101\n"
+    "0202\n"
+    "040000010200\n"
+    "060800010000000000\n"
+    "061100000000000000\n"
+    "060f01000000000000\n"
+    "061001000000000000\n"
+    "0500010202\n";
+
 /* The superclass of class 1 is class 1: a value that is not allowed, at line 2. */
 static const char own_superclass[] =
     "01ff\n"
+    "0101\n"
+    "0101\n"
+    "0101\n"
     "0101\n"
     "040000010100\n"
     "061100000000000000\n";
@@ -156,7 +180,7 @@ static uint64_t step(const char *panel, uint64_t n, unsigned registers, unsigned
     return number;
 }
 
-/* Exits with 0 if all numbers are as document 01 says. */
+/* Exits with 0 if all numbers are as the documents say. */
 int main(void)
 {
     int read = read_panel(sample) == HUDZMOKE_READ;
@@ -168,5 +192,6 @@ int main(void)
     int stepped = step(sample, 2, 1, 0, 0) == HUDZMOKE_STEPS_MADE;
     int ended = step(sample, 1000, 1, 0, 0) == HUDZMOKE_DONE;
     int stored = step(storing, 5, 2, 1, 1) == HUDZMOKE_STEPS_MADE;
-    return read && refused && accepted && violated && written && short_of && stepped && ended && stored ? 0 : 1;
+    int raised = step(raising, 3, 2, 1, 0) == HUDZMOKE_STEPS_MADE;
+    return read && refused && accepted && violated && written && short_of && stepped && ended && stored && raised ? 0 : 1;
 }

@@ -59,8 +59,8 @@ enum {
     HUDZMOKE_PROGRAM_TOO_LONG = 1,      /* over 65,536 bytes */
     HUDZMOKE_PROGRAM_BAD_LINE = 2,      /* another byte than 0 to 9 and a to f, an odd count of digits, an empty line, no line end */
     HUDZMOKE_PROGRAM_BAD_FRAME = 3,     /* unknown kind or wrong length */
-    HUDZMOKE_PROGRAM_OUT_OF_ORDER = 4,  /* a frame out of order, or a count outside its limits */
-    HUDZMOKE_PROGRAM_BAD_VALUE = 5,     /* a field value that is not allowed */
+    HUDZMOKE_PROGRAM_OUT_OF_ORDER = 4,  /* a frame out of order, or a count outside its limits (classes are 5 to 60) */
+    HUDZMOKE_PROGRAM_BAD_VALUE = 5,     /* a field value that is not allowed (classes 2 to 4 stand directly below class 1) */
     HUDZMOKE_PROGRAM_FALLS_THROUGH = 6, /* the last instruction of a method is no goto, return or throw */
 
     /* The claim text is refused. */
@@ -71,8 +71,8 @@ enum {
     HUDZMOKE_CLAIM_BAD_BIT = 13,      /* a mask has a bit that is not allowed */
 
     /* Refused for the state. 20 and 21: the step is neither made nor counted. */
-    HUDZMOKE_FULL_STORE = 20, /* new-instance at 256 objects */
-    HUDZMOKE_FULL_STACK = 21, /* a call without fault at 32 frames */
+    HUDZMOKE_FULL_STORE = 20, /* an object more at 256 objects: new-instance, or an instruction that raises one */
+    HUDZMOKE_FULL_STACK = 21, /* a call at 32 frames that neither faults nor raises */
     HUDZMOKE_STEPS_MADE = 22, /* the steps asked for are made, and the run has not ended */
     HUDZMOKE_SHORT = 23,      /* too little memory is lent, or less than a text has; it is untouched */
     HUDZMOKE_OUTSIDE = 24,    /* an address outside its method */
@@ -87,16 +87,21 @@ enum {
 
     HUDZMOKE_WRITTEN = 36, /* a text is written */
 
-    /* The run has ended by a fault, 1 to 8 of document 01: 40 and its number. */
+    /* The run has ended by a fault, 2, 3, 5, 6 or 7: 40 and its number. Null used as an object, division by zero and a failed cast are
+     * exceptions. */
     HUDZMOKE_FAULT = 40,
-    HUDZMOKE_NULL_AS_OBJECT = 41,   /* null stands where an object must */
-    HUDZMOKE_NUMBER_AS_OBJECT = 42, /* another number stands where an object must */
+    HUDZMOKE_NUMBER_AS_OBJECT = 42, /* a number other than zero stands where an object must */
     HUDZMOKE_OBJECT_AS_NUMBER = 43, /* an object stands where a number must */
-    HUDZMOKE_DIVISION_BY_ZERO = 44, /* div or rem by zero */
     HUDZMOKE_FIELD_NOT_HAD = 45,    /* the object's class does not have the field */
     HUDZMOKE_NO_METHOD = 46,        /* a virtual call finds no method */
-    HUDZMOKE_NOT_THROWABLE = 47,    /* throw of an object that is no Throwable */
-    HUDZMOKE_FAILED_CAST = 48       /* check-cast of an object of another class */
+    HUDZMOKE_NOT_THROWABLE = 47     /* throw of an object that is no Throwable */
+};
+
+/* The classes of the objects that an instruction raises itself. Every panel has them, each directly below class 1, Throwable. */
+enum {
+    HUDZMOKE_NULL_CLASS = 2,       /* null stands where an object must */
+    HUDZMOKE_ARITHMETIC_CLASS = 3, /* div or rem by zero */
+    HUDZMOKE_CAST_CLASS = 4        /* check-cast of an object whose class is not at or below the named one */
 };
 
 /* Reads a program text: HUDZMOKE_READ, or the number of its refusal. The answer's words: that number; the line, or 0; 0; 0; 0. */

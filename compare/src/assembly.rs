@@ -1,18 +1,12 @@
-//! Programs written down in Rust: one function for each instruction.
+//! Programs written down in Rust: one function for each instruction, and those
+//! for methods and whole programs.
+
+mod programs;
 
 use crate::opcode::*;
-use crate::program::{Class, Field, Instruction, Method, Program, NO_SUPERCLASS, STATIC, VIRTUAL};
+use crate::program::Instruction;
 
-/// Document 01's sample.
-pub const SAMPLE: &str = "\
-01ff
-0100
-040000010100
-060d01000000000000
-061100000000000000
-040001010100
-061100000000000000
-";
+pub use programs::*;
 
 /// Operations of `binop`.
 pub const ADD: u32 = 0;
@@ -125,42 +119,6 @@ pub fn instance_of(to: u8, from: u8, class: u8) -> Instruction {
 
 pub fn check_cast(from: u8, class: u8) -> Instruction {
     Instruction::new(CHECK_CAST, from, class, 0, 0)
-}
-
-/// Method 0, of class 0 and name 0.
-pub fn main_method(registers: u8, code: Vec<Instruction>) -> Method {
-    Method::new(0, 0, STATIC, registers, 0).with_code(code)
-}
-
-/// A static method of class 0.
-pub fn static_method(name: u8, registers: u8, arguments: u8, code: Vec<Instruction>) -> Method {
-    Method::new(0, name, STATIC, registers, arguments).with_code(code)
-}
-
-pub fn virtual_method(
-    (class, name): (u8, u8),
-    registers: u8,
-    arguments: u8,
-    code: Vec<Instruction>,
-) -> Method {
-    Method::new(class, name, VIRTUAL, registers, arguments).with_code(code)
-}
-
-/// A program with these superclasses of class 1 and on, and these fields by
-/// their classes.
-pub fn program(
-    superclasses: &[u8],
-    fields: &[u8],
-    statics: usize,
-    methods: Vec<Method>,
-) -> Program {
-    let all = [NO_SUPERCLASS].iter().chain(superclasses);
-    Program {
-        classes: all.map(|&superclass| Class { superclass }).collect(),
-        fields: fields.iter().map(|&class| Field { class }).collect(),
-        statics,
-        methods,
-    }
 }
 
 /// A generator of numbers in register 0, without end: four constants, and six

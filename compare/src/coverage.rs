@@ -1,12 +1,13 @@
 //! What the cases for the stepper reach, counted in cases.
 
 use crate::generate_steps::Case;
+use crate::machine::fate::{Exceptions, Fate};
 use crate::machine::moment::Moment;
 use crate::machine::run::Machine;
 use crate::machine::state::{Limits, Stop};
 use crate::machine::{self, MAX_STEPS};
-use crate::opcode::{BINOP, IF, UNOP};
-use crate::program::{Instruction, Program};
+use crate::opcode::*;
+use crate::program::{Instruction, Program, ARITHMETIC, CAST, NULL};
 use crate::reader::read;
 use std::collections::{BTreeMap, BTreeSet};
 
@@ -20,14 +21,19 @@ pub struct Coverage {
 /// The names of everything that is to be reached.
 pub fn wanted() -> Vec<String> {
     let mut names = vec![];
-    for number in (1..=6).chain([20, 21, 22, 23, 32, 33]).chain(41..=48) {
-        names.push(format!("number {number}"));
-    }
+    let ends = [20, 21, 22, 23, 32, 33, 42, 43, 45, 46, 47];
+    names.extend((1..=6).chain(ends).map(|number| format!("number {number}")));
     names.extend((0..=0x14).map(|o| format!("opcode {o:02x}")));
     names.extend((0..11).map(|d| format!("binop {d:02}")));
     names.extend((0..2).map(|c| format!("unop {c}")));
     for condition in 0..12 {
         names.extend(["left", "taken"].map(|way| format!("if {condition:02} {way}")));
+    }
+    for o in [IGET, IPUT, INVOKE_VIRTUAL, THROW, BINOP, CHECK_CAST] {
+        names.extend(["raised", "20"].map(|what| format!("{what} by opcode {o:02x}")));
+    }
+    for class in [NULL, ARITHMETIC, CAST] {
+        names.extend(Fate::ALL.map(|fate| fate_name(class, fate)));
     }
     let pending = ["caught", "dropped frame", "22 with an object pending"];
     names.extend(pending.map(String::from));
@@ -50,6 +56,7 @@ impl Coverage {
     fn follow(&mut self, program: &Program, n: u64, reached: &mut BTreeSet<String>) -> Stop {
         let mut machine = Machine::new(program, Limits::STEPPER);
         let mut kinds = BTreeSet::new();
+        let mut exceptions = Exceptions::default();
         let stop = loop {
             let before = Moment::of(&machine);
             let stop = machine.run(n.min(machine.steps + 1));
@@ -59,6 +66,11 @@ impl Coverage {
                     let next = top_address(&machine) == Some(before.address + 1);
                     let way = machine.end.is_none().then_some(if next { "left" } else { "taken" });
                     kinds.insert((i.o, i.c, i.d as u8, way));
+                    let raised = before.raised(&machine).map(|_| i.o);
+                    reached.extend(raised.map(|o| format!("raised by opcode {o:02x}")));
+                }
+                if let Some((fate, Some(class))) = exceptions.step(&before, &machine) {
+                    reached.insert(fate_name(class, fate));
                 }
                 let caught = before.caught(&machine).then_some("caught");
                 let dropped = before.left(&machine).map(|_| "dropped frame");
@@ -68,6 +80,9 @@ impl Coverage {
                 break stop;
             }
         };
+        if let (Stop::ObjectsFull, Some(top)) = (stop, Moment::of(&machine)) {
+            reached.insert(format!("20 by opcode {:02x}", instruction(program, &top).o));
+        }
         if machine.end.is_none() && machine.pending.is_some() {
             reached.insert("22 with an object pending".to_string());
         }
@@ -75,6 +90,10 @@ impl Coverage {
         reached.extend(kinds.into_iter().flat_map(|(o, c, d, way)| names(o, c, d, way)));
         stop
     }
+}
+
+fn fate_name(class: u8, fate: Fate) -> String {
+    format!("class {class} {}", fate.name())
 }
 
 /// The names of an instruction; `way` is how a branch went, without fault.

@@ -67,21 +67,22 @@ mod tests {
     use super::*;
     use crate::machine::Report;
 
-    /// Two classes and `return-void`, summed by hand in another way: the
+    /// Five classes and `return-void`, summed by hand in another way: the
     /// value of a polynomial at 257, without reduction until the end.
     #[test]
     fn checksum_is_a_polynomial() {
-        let text = b"01ff\n0100\n040000010100\n061100000000000000\n";
+        let text = b"01ff\n0100\n0101\n0101\n0101\n040000010100\n061100000000000000\n";
         let program = crate::reader::read(text).unwrap();
-        let bytes = [1, 255, 1, 0, 4, 0, 0, 1, 1, 0, 6, 17, 0, 0, 0, 0, 0, 0, 0];
+        let classes = [1, 255, 1, 0, 1, 1, 1, 1, 1, 1];
+        let method = [4, 0, 0, 1, 1, 0, 6, 17, 0, 0, 0, 0, 0, 0, 0];
         let mut power = 1u64;
         let mut sum = 0u64;
-        for byte in bytes.iter().rev() {
+        for byte in classes.iter().chain(&method).rev() {
             sum = (sum + power * (byte + 1)) % MODULUS;
             power = power * FACTOR % MODULUS;
         }
         assert_eq!(u64::from(checksum(&program)), sum);
-        assert_eq!(describe(&Ok(program)), format!("read 02 00 00 01 0001 0000 {sum:08x}"));
+        assert_eq!(describe(&Ok(program)), format!("read 05 00 00 01 0001 0000 {sum:08x}"));
     }
 
     #[test]

@@ -8,6 +8,7 @@ mod lexical;
 pub(crate) mod mutations;
 mod operands;
 mod order;
+mod raised_classes;
 pub(crate) mod shapes;
 
 use crate::program::Program;
@@ -60,7 +61,7 @@ pub fn largest_program() -> Program {
 pub fn suite() -> [Vec<Case>; 4] {
     let mut groups = [
         shapes::cases(),
-        [operands::cases(), fields::cases(), calls::cases()].concat(),
+        [operands::cases(), fields::cases(), calls::cases(), raised_classes::cases()].concat(),
         [lexical::cases(), order::cases(), combined::cases()].concat(),
         mutations::cases(),
     ];

@@ -9,6 +9,8 @@ mod largest;
 mod memory;
 mod object_programs;
 mod orders;
+mod raise_programs;
+mod raises;
 mod random_calls;
 mod random_programs;
 mod refused;
@@ -97,7 +99,7 @@ impl Case {
 pub fn written_programs() -> Vec<Program> {
     let with_calls = [call_programs::all(), virtual_programs::all()].concat();
     let others = [flow_programs::all(), object_programs::all(), exception_programs::all()].concat();
-    [with_calls, others].concat()
+    [with_calls, others, raise_programs::all()].concat()
 }
 
 /// All cases, each once: written programs; random programs; claims, programs
@@ -105,7 +107,7 @@ pub fn written_programs() -> Vec<Program> {
 /// enough, every sixth case has a little more.
 pub fn suite() -> [Vec<Case>; 4] {
     let mut groups = [
-        [sample::cases(), changes::cases()].concat(),
+        [sample::cases(), changes::cases(), raises::cases()].concat(),
         random_programs::cases(),
         [
             [texts::cases(), orders::cases(), damage::cases()].concat(),

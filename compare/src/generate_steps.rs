@@ -10,6 +10,9 @@ mod limits;
 mod object_programs;
 mod operations;
 mod programs;
+mod raise_limits;
+mod raised_objects;
+mod raises;
 mod random_code;
 mod random_pieces;
 mod random_program;
@@ -73,14 +76,31 @@ fn outcome(program: &Program, n: u64) -> (u8, u64) {
 /// step, after no step, and at `parts` moments in between.
 fn moments(program: &Program, meant: u8, parts: usize, random: &mut Random) -> Vec<Case> {
     let (_, last) = outcome(program, MAX_STEPS);
-    // The step of an end is the last one; that of 20 and 21 is not made.
-    let stopping = if matches!(meant, 20 | 21) { last + 1 } else { last };
+    let stopping = stopping(meant, last);
     let mut counts = vec![0, stopping - 1, stopping, MAX_STEPS];
     counts.extend((0..parts).map(|_| random.below(last as usize + 1) as u64));
     counts.sort();
     counts.dedup();
-    let at = |n| Case::of(program, n).giving(if n < stopping { 22 } else { meant });
-    counts.into_iter().map(at).collect()
+    after(program, meant, &counts)
+}
+
+/// The same run after these numbers of steps.
+fn after(program: &Program, meant: u8, counts: &[u64]) -> Vec<Case> {
+    let (given, last) = outcome(program, MAX_STEPS);
+    assert_eq!(given, meant, "{}", String::from_utf8_lossy(&program.text()));
+    let stopping = stopping(meant, last);
+    let at = |&n| Case::of(program, n).giving(if n < stopping { 22 } else { meant });
+    counts.iter().map(at).collect()
+}
+
+/// The step that stops a run of so many steps: that of an end is the last one,
+/// that of 20 and 21 is not made.
+fn stopping(meant: u8, last: u64) -> u64 {
+    if matches!(meant, 20 | 21) {
+        last + 1
+    } else {
+        last
+    }
 }
 
 /// A run that is meant not to stop, after these numbers of steps.
@@ -89,7 +109,7 @@ fn endless(program: &Program, counts: &[u64]) -> Vec<Case> {
 }
 
 /// All cases, each text and count once but for other memory: operations;
-/// calls, exceptions, storage and faults; random programs; limits and damaged
+/// calls, exceptions thrown and raised, storage and faults; random programs; limits and damaged
 /// texts. Where memory is enough, every third has a little more.
 pub fn suite() -> [Vec<Case>; 4] {
     let mut groups = [
@@ -97,6 +117,7 @@ pub fn suite() -> [Vec<Case>; 4] {
         [
             [calls::cases(), dispatch::cases(), recursion::cases()].concat(),
             [handlers::cases(), exceptions::cases(), storage::cases(), faults::cases()].concat(),
+            [raises::cases(), raised_objects::cases(), raise_limits::cases()].concat(),
         ]
         .concat(),
         random_program::cases(),

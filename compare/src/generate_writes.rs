@@ -4,6 +4,7 @@ mod call_programs;
 mod exception_programs;
 mod largest;
 mod loop_programs;
+mod raise_programs;
 mod random_programs;
 mod refusals;
 mod storage_programs;
@@ -11,6 +12,7 @@ mod storage_programs;
 use crate::generate_claims;
 use crate::least::least;
 use crate::program::Program;
+use crate::raising::chains;
 use crate::Refusal;
 use std::collections::HashSet;
 
@@ -62,13 +64,13 @@ impl Case {
 /// The programs written down for these cases.
 pub fn written_programs() -> Vec<Program> {
     let with_calls = [call_programs::all(), exception_programs::all()].concat();
-    [loop_programs::all(), storage_programs::all(), with_calls].concat()
+    [loop_programs::all(), storage_programs::all(), with_calls, raise_programs::all()].concat()
 }
 
 /// All cases, each once: written programs; random ones; refusals and lengths;
 /// the largest programs.
 pub fn suite() -> [Vec<Case>; 4] {
-    let written = [written_programs(), generate_claims::written_programs()].concat();
+    let written = [written_programs(), generate_claims::written_programs(), chains()].concat();
     let mut groups = [
         written.iter().map(Case::of).collect(),
         random_programs::cases(),

@@ -1,7 +1,8 @@
 //! A second implementation of panel programs, to compare answers with.
 //!
 //! * [`program`]: the structured program, and its [`opcode`]s;
-//! * [`assembly`]: programs written down in Rust;
+//! * [`assembly`]: programs written down in Rust, and [`raising`], those of
+//!   instructions that raise;
 //! * [`frame`]: one line of a text as bytes, and back;
 //! * [`reader`]: text to program, or the refusal (numbers 1 to 4 there,
 //!   numbers 5 and 6 in [`values`]);
@@ -39,6 +40,7 @@ pub mod least;
 pub mod machine;
 pub mod opcode;
 pub mod program;
+pub mod raising;
 pub mod random;
 pub mod reader;
 pub mod report;

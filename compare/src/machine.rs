@@ -3,11 +3,13 @@
 //! A read program is decoded ([`code`]) and run in structures of its own
 //! ([`run`], with [`state`] and [`execute`]); the state reached is then laid
 //! into the lent memory, in words ([`layout`]) or in structs of C
-//! ([`structs`]). [`moment`] tells what a step did.
+//! ([`structs`]). [`moment`] tells what a step did, and [`fate`] what becomes of
+//! exceptions.
 
 pub mod arithmetic;
 pub mod code;
 pub mod execute;
+pub mod fate;
 pub mod layout;
 pub mod moment;
 pub mod run;

@@ -30,6 +30,12 @@ pub const TWO_REGISTER_CONDITIONS: u8 = 6;
 /// Operations of `binop` (field `d`): add to ushr.
 pub const BINARY_OPERATIONS: u32 = 11;
 
+/// Whether an operation of `binop` is div or rem, which raise if the divisor is
+/// zero.
+pub fn divides(operation: u32) -> bool {
+    matches!(operation, 3 | 4)
+}
+
 /// Operations of `unop` (field `c`): neg and not.
 pub const UNARY_OPERATIONS: u8 = 2;
 

@@ -3,6 +3,13 @@
 /// Superclass byte of class 0, which has no superclass.
 pub const NO_SUPERCLASS: u8 = 0xff;
 
+/// Classes that every program has: Throwable, and right below it those of the
+/// exceptions that null, a division by zero and a failed cast raise.
+pub const THROWABLE: u8 = 1;
+pub const NULL: u8 = 2;
+pub const ARITHMETIC: u8 = 3;
+pub const CAST: u8 = 4;
+
 /// Kinds of a method.
 pub const VIRTUAL: u8 = 0;
 pub const STATIC: u8 = 1;

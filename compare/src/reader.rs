@@ -14,7 +14,8 @@ pub const MAX_LENGTH: usize = 65_536;
 /// Bytes of the longest frame, an instruction's.
 const LONGEST_FRAME: usize = 9;
 
-const MIN_CLASSES: usize = 2;
+/// Class 0, Throwable, and the three that instructions raise.
+const MIN_CLASSES: usize = 5;
 const MAX_CLASSES: usize = 60;
 const MAX_FIELDS: usize = 16;
 const MAX_STATICS: usize = 16;

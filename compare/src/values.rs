@@ -1,7 +1,8 @@
 //! Refusals 5 and 6: values that are not allowed, and code that falls through.
 
 use crate::opcode::*;
-use crate::program::{Handler, Instruction, Method, Program, NO_SUPERCLASS, STATIC, VIRTUAL};
+use crate::program::{Handler, Instruction, Method, Program};
+use crate::program::{NO_SUPERCLASS, STATIC, THROWABLE, VIRTUAL};
 use crate::Refusal;
 
 const MAX_REGISTERS: u8 = 16;
@@ -48,11 +49,12 @@ fn has_class(program: &Program, class: u8) -> bool {
     usize::from(class) < program.classes.len()
 }
 
+/// The classes that instructions raise lie right below Throwable.
 fn superclass_allowed(number: usize, superclass: u8) -> bool {
-    if number == 0 {
-        superclass == NO_SUPERCLASS
-    } else {
-        usize::from(superclass) < number
+    match number {
+        0 => superclass == NO_SUPERCLASS,
+        2..=4 => superclass == THROWABLE,
+        _ => usize::from(superclass) < number,
     }
 }
 

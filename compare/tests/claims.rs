@@ -7,14 +7,15 @@ use compare::least::greatest;
 use compare::program::Program;
 use compare::Refusal;
 
-/// Class 1 has field 0, every class has field 1; one static; method 0 has one
-/// register and two instructions, method 1 two registers and one.
+/// Seven classes; class 5 has field 1, class 6 below it all three fields; one
+/// static; method 0 has one register and two instructions, method 1 two
+/// registers and one.
 fn small_program() -> Program {
     let methods = vec![
         main_method(1, vec![nop(), return_void()]),
         static_method(1, 2, 0, vec![return_void()]),
     ];
-    program(&[0, 0], &[1, 0], 1, methods)
+    whole_program(&[0, 1, 1, 1, 0, 5], &[6, 5, 6], 1, methods)
 }
 
 /// Every mask with a number of its own.
@@ -22,10 +23,10 @@ const LINES: [&str; 12] = [
     "11000040000000000000018000000000000002",
     "11000140000000000000030000000000000004",
     "110100000000000000000540000000000000060000000000000007",
-    "1200010000000000000001",
-    "1201000000000000000002",
-    "1201010000000000000003",
-    "1202010000000000000004",
+    "1205010000000000000001",
+    "1206000000000000000002",
+    "1206010000000000000003",
+    "1206020000000000000004",
     "1300c000000000000005",
     "14000000000000000006",
     "14018000000000000007",
@@ -55,8 +56,10 @@ fn masks_come_from_their_lines() {
     assert_eq!(claim.row(0, 0), [ZERO | 1, OTHER | 2]);
     assert_eq!(claim.row(0, 1), [ZERO | 3, 4]);
     assert_eq!(claim.row(1, 0), [5, ZERO | 6, 7]);
-    assert_eq!(claim.fields[0][..3], [0, 2, 0]);
-    assert_eq!(claim.fields[1][..3], [1, 3, 4]);
+    let of_classes = [0, 1, 2].map(|field: usize| claim.fields[field][..7].to_vec());
+    assert_eq!(of_classes[0], [0, 0, 0, 0, 0, 0, 2]);
+    assert_eq!(of_classes[1], [0, 0, 0, 0, 0, 1, 3]);
+    assert_eq!(of_classes[2], [0, 0, 0, 0, 0, 0, 4]);
     assert_eq!(claim.statics, [NUMBERS | 5]);
     assert_eq!(claim.returned, [6, OTHER | 7]);
     assert_eq!(claim.leaving, [1, 2]);
@@ -152,10 +155,10 @@ fn bits_not_allowed_are_13() {
         refusal_with(line, &format!("{}{mask:016x}", &good[..good.len() - 16]))
     };
     for line in 1..=LINES.len() {
-        for bit in 3..62 {
+        for bit in 7..62 {
             assert_eq!(with_mask(line, 1 << bit), Some((13, line as u32)), "bit {bit}");
         }
-        assert_eq!(with_mask(line, 0b111), None);
+        assert_eq!(with_mask(line, 0b111_1111), None);
         let numbers = if line > 10 { Some((13, line as u32)) } else { None };
         assert_eq!([with_mask(line, ZERO), with_mask(line, OTHER)], [numbers; 2]);
     }
@@ -165,7 +168,8 @@ fn bits_not_allowed_are_13() {
 
 #[test]
 fn sixty_classes_leave_bits_60_and_61() {
-    let program = program(&[0; 59], &[], 0, vec![main_method(1, vec![return_void()])]);
+    let program = program(&[0; 56], &[], 0, vec![main_method(1, vec![return_void()])]);
+    assert_eq!(program.classes.len(), 60);
     let claim = |bit: u32| {
         let mask: u64 = 1 << bit;
         format!("110000{mask:016x}0000000000000000\n14000000000000000000\n15000000000000000000\n")

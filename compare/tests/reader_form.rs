@@ -7,7 +7,7 @@ use compare::program::{Class, Instruction, Method, STATIC};
 use compare::reader::read;
 use compare::Refusal;
 
-const CLASSES: &str = "01ff\n0100\n";
+const CLASSES: &str = "01ff\n0100\n0101\n0101\n0101\n";
 const METHOD: &str = "040000010100\n";
 const NOP: &str = "060000000000000000\n";
 const RETURN: &str = "061100000000000000\n";
@@ -30,7 +30,7 @@ fn method(name: usize) -> String {
 #[test]
 fn sample_is_read() {
     let program = read(SAMPLE.as_bytes()).unwrap();
-    assert_eq!(program.classes, [Class { superclass: 0xff }, Class { superclass: 0 }]);
+    assert_eq!(program.classes, [0xff, 0, 1, 1, 1].map(|superclass| Class { superclass }));
     assert!(program.fields.is_empty() && program.statics == 0);
     let call = Instruction::new(INVOKE_STATIC, 1, 0, 0, 0);
     let ret = Instruction::new(RETURN_VOID, 0, 0, 0, 0);
@@ -42,7 +42,7 @@ fn sample_is_read() {
         ]
     );
     assert_eq!(program.text(), SAMPLE.as_bytes());
-    assert!(describe(&Ok(program)).starts_with("read 02 00 00 02 0003 0000 "));
+    assert!(describe(&Ok(program)).starts_with("read 05 00 00 02 0003 0000 "));
 }
 
 #[test]
@@ -62,8 +62,8 @@ fn length_is_refused_before_all() {
 fn bytes_that_are_no_digit() {
     for byte in [b'A', b'F', b'g', b'`', b'/', b':', b'@', b' ', b'\r', 0, 0xff] {
         let mut text = SAMPLE.as_bytes().to_vec();
-        text[12] = byte;
-        assert_eq!(refused(&text), (2, 3), "{byte:02x}");
+        text[27] = byte;
+        assert_eq!(refused(&text), (2, 6), "{byte:02x}");
     }
     assert_eq!(refused(SAMPLE.replace('\n', "\r\n")), (2, 1));
     assert_eq!(refused(SAMPLE.to_uppercase()), (2, 1));
@@ -74,18 +74,18 @@ fn digit_counts_and_line_ends() {
     assert_eq!(refused("01ff\n01000\n"), (2, 2));
     assert_eq!(refused("01ff\n\n0100\n"), (2, 2));
     assert_eq!(refused("\n"), (2, 1));
-    assert_eq!(refused(format!("{SAMPLE}\n")), (2, 8));
-    assert_eq!(refused(SAMPLE.trim_end()), (2, 7));
+    assert_eq!(refused(format!("{SAMPLE}\n")), (2, 11));
+    assert_eq!(refused(SAMPLE.trim_end()), (2, 10));
     // A last line without its end is 2, whatever it holds.
     assert_eq!(refused("01ff\n07"), (2, 2));
     assert_eq!(refused("01ff\n03"), (2, 2));
-    assert_eq!(refused(format!("{SAMPLE}0100")), (2, 8));
+    assert_eq!(refused(format!("{SAMPLE}0100")), (2, 11));
 }
 
 #[test]
 fn unknown_kinds_and_wrong_lengths() {
     for kind in ["00", "07", "10", "ff"] {
-        assert_eq!(refused(format!("{CLASSES}{kind}\n{METHOD}{RETURN}")), (3, 3));
+        assert_eq!(refused(format!("{CLASSES}{kind}\n{METHOD}{RETURN}")), (3, 6));
         assert_eq!(refused(format!("{kind}ff\n")), (3, 1));
     }
     // The length is tested before the place: each of these is the first line.
@@ -100,55 +100,62 @@ fn unknown_kinds_and_wrong_lengths() {
 #[test]
 fn frames_out_of_order() {
     assert_eq!(refused(format!("03\n{CLASSES}{METHOD}{RETURN}")), (4, 1));
-    // Fewer than two classes: the frame that follows cannot stand there.
-    for next in ["0200\n", "03\n", METHOD] {
-        assert_eq!(refused(format!("01ff\n{next}")), (4, 2));
+    // Fewer than five classes: the frame that follows cannot stand there.
+    for classes in 1..5 {
+        for next in ["0200\n", "03\n", METHOD, RETURN, HANDLER] {
+            let text = format!("{}{next}", &CLASSES[..5 * classes]);
+            assert_eq!(refused(text), (4, classes as u32 + 1));
+        }
     }
-    assert_eq!(refused(format!("{CLASSES}0200\n0100\n")), (4, 4));
-    assert_eq!(refused(format!("{CLASSES}03\n0200\n")), (4, 4));
-    assert_eq!(refused(format!("{CLASSES}{RETURN}")), (4, 3));
-    assert_eq!(refused(format!("{CLASSES}{HANDLER}")), (4, 3));
-    assert_eq!(refused(format!("{CLASSES}{METHOD}{METHOD}")), (4, 4));
-    assert_eq!(refused(format!("{CLASSES}{METHOD}{HANDLER}")), (4, 4));
-    assert_eq!(refused(format!("{CLASSES}{METHOD}{RETURN}{HANDLER}{RETURN}")), (4, 6));
+    assert_eq!(refused(format!("{CLASSES}0200\n0100\n")), (4, 7));
+    assert_eq!(refused(format!("{CLASSES}03\n0200\n")), (4, 7));
+    assert_eq!(refused(format!("{CLASSES}{RETURN}")), (4, 6));
+    assert_eq!(refused(format!("{CLASSES}{HANDLER}")), (4, 6));
+    assert_eq!(refused(format!("{CLASSES}{METHOD}{METHOD}")), (4, 7));
+    assert_eq!(refused(format!("{CLASSES}{METHOD}{HANDLER}")), (4, 7));
+    assert_eq!(refused(format!("{CLASSES}{METHOD}{RETURN}{HANDLER}{RETURN}")), (4, 9));
     for late in ["0100\n", "0200\n", "03\n"] {
-        assert_eq!(refused(format!("{SAMPLE}{late}")), (4, 8));
+        assert_eq!(refused(format!("{SAMPLE}{late}")), (4, 11));
     }
+    // The sample as it was before document 02.
+    assert_eq!(refused(SAMPLE.replace("0101\n", "")), (4, 3));
 }
 
 #[test]
 fn frames_missing_at_the_end() {
     assert_eq!(refused(""), (4, 1));
-    assert_eq!(refused("01ff\n"), (4, 2));
-    assert_eq!(refused(CLASSES), (4, 3));
-    assert_eq!(refused(format!("{CLASSES}0200\n03\n")), (4, 5));
-    assert_eq!(refused(format!("{CLASSES}{METHOD}")), (4, 4));
-    assert_eq!(refused(format!("{SAMPLE}040002010100\n")), (4, 9));
+    for classes in 1..=5 {
+        assert_eq!(refused(&CLASSES[..5 * classes]), (4, classes as u32 + 1));
+    }
+    assert_eq!(refused(format!("{CLASSES}0200\n03\n")), (4, 8));
+    assert_eq!(refused(format!("{CLASSES}{METHOD}")), (4, 7));
+    assert_eq!(refused(format!("{SAMPLE}040002010100\n")), (4, 12));
 }
 
 #[test]
 fn counts_at_and_past_their_limits() {
     let with_classes =
-        |count: usize| format!("01ff\n{}{METHOD}{RETURN}", "0100\n".repeat(count - 1));
+        |count: usize| format!("{CLASSES}{}{METHOD}{RETURN}", "0100\n".repeat(count - 5));
+    assert!(accepted(with_classes(5)));
     assert!(accepted(with_classes(60)));
     assert_eq!(refused(with_classes(61)), (4, 61));
     for kind in ["0200\n", "03\n"] {
         let with = |count: usize| format!("{CLASSES}{}{METHOD}{RETURN}", kind.repeat(count));
         assert!(accepted(with(16)));
-        assert_eq!(refused(with(17)), (4, 19));
+        assert_eq!(refused(with(17)), (4, 22));
     }
     let with_methods =
         |count: usize| format!("{CLASSES}{}", (0..count).map(method).collect::<String>());
     assert!(accepted(with_methods(16)));
-    assert_eq!(refused(with_methods(17)), (4, 35));
+    assert_eq!(refused(with_methods(17)), (4, 38));
     let with_code =
         |count: usize| format!("{CLASSES}{METHOD}{}{RETURN}{}", NOP.repeat(count - 1), method(1));
     assert!(accepted(with_code(32)));
-    assert_eq!(refused(with_code(33)), (4, 36));
+    assert_eq!(refused(with_code(33)), (4, 39));
     let with_handlers =
         |count: usize| format!("{CLASSES}{METHOD}{RETURN}{}{}", HANDLER.repeat(count), method(1));
     assert!(accepted(with_handlers(8)));
-    assert_eq!(refused(with_handlers(9)), (4, 13));
+    assert_eq!(refused(with_handlers(9)), (4, 16));
 }
 
 #[test]
@@ -162,4 +169,5 @@ fn first_line_then_lowest_number() {
     assert_eq!(refused("07\n0\n03\n"), (3, 1));
     assert_eq!(refused("01ff\n0\n07\n"), (2, 2));
     assert_eq!(refused("01ff\n0100\n06\n0100"), (3, 3));
+    assert_eq!(refused("01ff\n0100\n0100\n06\n"), (3, 4));
 }

@@ -9,6 +9,7 @@ use compare::least::least;
 use compare::machine::run::{run_after, Machine};
 use compare::machine::state::End;
 use compare::program::Program;
+use compare::raising::chains;
 use compare::random::Random;
 use compare::reader::read;
 use std::collections::HashSet;
@@ -39,7 +40,7 @@ fn follow(accepted: &Accepted, steps: u64) -> Machine {
 #[test]
 fn runs_stay_inside_least_claims() {
     let mut random = Random::new(95);
-    let mut programs = written_programs();
+    let mut programs = [written_programs(), chains()].concat();
     programs.extend((0..150).map(|_| likely_program(&mut random)));
     programs.extend((0..100).map(|_| random_calls(&mut random)));
     let mut seen = HashSet::new();

@@ -39,14 +39,11 @@ fn fault(instruction: Instruction) -> u8 {
 
 #[test]
 fn each_fault() {
-    assert_eq!(fault(iget(1, 0, 0)), 1);
     assert_eq!(fault(iput(1, 1, 0)), 2);
     assert_eq!(fault(binop(ADD, 1, 1, 2)), 3);
-    assert_eq!(fault(binop(REM, 1, 1, 0)), 4);
     assert_eq!(fault(iget(1, 2, 1)), 5);
     assert_eq!(fault(invoke_virtual(7, 1, 2)), 6);
     assert_eq!(fault(throw(2)), 7);
-    assert_eq!(fault(check_cast(3, 2)), 8);
 }
 
 #[test]
@@ -57,12 +54,9 @@ fn their_order_and_the_kinds_that_meet_them() {
     assert_eq!(fault(branch(LT, 2, 1, 0)), 3);
     assert_eq!(fault(branch(GE, 1, 3, 0)), 3);
     assert_eq!(fault(branch_zero(GT, 3, 0)), 3);
-    assert_eq!(fault(iget(1, 0, 1)), 1);
     assert_eq!(fault(iget(1, 1, 1)), 2);
     assert_eq!(fault(iput(1, 3, 0)), 5);
-    assert_eq!(fault(invoke_virtual(7, 1, 0)), 1);
     assert_eq!(fault(invoke_virtual(7, 2, 1)), 2);
-    assert_eq!(fault(throw(0)), 1);
     assert_eq!(fault(throw(1)), 2);
     assert_eq!(fault(instance_of(1, 1, 0)), 2);
     assert_eq!(fault(check_cast(1, 0)), 2);

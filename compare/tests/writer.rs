@@ -139,7 +139,7 @@ fn a_claim_by_hand() {
         static_method(1, 2, 1, callee),
     ];
     let claim = least_claim(&program(&[0, 1], &[], 0, methods));
-    let object = 1 << 2;
+    let object = 1 << moved(2);
     let any = ZERO | OTHER | object;
     // The callee has no way to its return: nothing comes back.
     assert_eq!(claim.row(0, 0), [any, ZERO | object]);
@@ -151,4 +151,30 @@ fn a_claim_by_hand() {
     assert_eq!(claim.row(1, 1), [object, any, ZERO]);
     assert_eq!(claim.row(1, 2), [0, 0, 0]);
     assert_eq!((claim.returned, claim.leaving), (vec![0, 0], vec![0, object]));
+}
+
+/// Null and a division by zero are caught, a failed cast leaves; each mask by
+/// hand.
+#[test]
+fn a_claim_of_what_is_raised_by_hand() {
+    let code = vec![
+        branch_zero(EQ, 1, 2),
+        new_instance(0, 5),
+        iget(1, 0, 0),
+        give(1),
+        check_cast(0, 2),
+        binop(REM, 1, 1, 1),
+        give(0),
+    ];
+    let handlers = vec![Handler::new(2, 3, 4, 2), Handler::new(5, 6, 6, 1)];
+    let main = main_method(2, code).with_handlers(handlers);
+    let claim = least_claim(&whole_program(&[0, 1, 1, 1, 0], &[5], 0, vec![main]));
+    let [null, arithmetic, cast, object] = [2, 3, 4, 5].map(|class| 1 << class);
+    assert_eq!([claim.row(0, 0), claim.row(0, 1)], [[ZERO; 3]; 2]);
+    assert_eq!(claim.row(0, 2), [ZERO | object, ZERO, ZERO]);
+    assert_eq!(claim.row(0, 3), [ZERO | object, ZERO, ZERO]);
+    assert_eq!(claim.row(0, 4), [ZERO | object, ZERO, null]);
+    assert_eq!(claim.row(0, 5), [ZERO, ZERO, null]);
+    assert_eq!(claim.row(0, 6), [ZERO, NUMBERS, null | arithmetic]);
+    assert_eq!((claim.fields[0][5], claim.returned[0], claim.leaving[0]), (ZERO, ZERO, cast));
 }

@@ -56,7 +56,7 @@ impl Rules<'_> {
             GOTO => target()?,
             RETURN => ask(8, row[usize::from(a)], self.claim.returned[method])?,
             RETURN_VOID => ask(8, ZERO, self.claim.returned[method])?,
-            THROW => self.leave(here, row[usize::from(a)] & self.sets.throwable())?,
+            THROW => {}
             INVOKE_VIRTUAL => return self.virtual_call(here, instruction),
             INVOKE_STATIC => return self.static_call(here, instruction),
             NOP | IF | IPUT | SPUT => {
@@ -70,7 +70,7 @@ impl Rules<'_> {
             }
             _ => self.write(here, usize::from(a), self.written(row, instruction))?,
         }
-        Ok(0)
+        self.leave(here, self.sets.raised(instruction, row)).map(|()| 0)
     }
 
     /// The masks at the next address.
@@ -144,7 +144,8 @@ impl Rules<'_> {
         self.registers_flow(here)?;
         let first = usize::from(first);
         let others = &here.row[first + 1..first + usize::from(count)];
-        let (mut callees, mut returned, mut leaving) = (0, 0, 0);
+        let (mut callees, mut returned) = (0, 0);
+        let mut leaving = self.sets.raised(instruction, here.row);
         for (callee, classes) in self.sets.callees(name, count, here.row[first]) {
             let parameters = self.parameters(callee);
             ask(6, classes, parameters[0])?;
@@ -170,7 +171,7 @@ impl Rules<'_> {
         &self.claim.row(method, 0)[registers - arguments..registers]
     }
 
-    /// Rules 7, 9 and 10 of a call, for all its callees together.
+    /// Rules 7, 9 and 10 of a call, for all its callees and null together.
     fn come_back(&self, here: Here, returned: u64, leaving: u64) -> Asked {
         let next = self.next(here);
         ask(7, returned, next[next.len() - 1])?;

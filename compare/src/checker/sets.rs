@@ -1,13 +1,11 @@
 //! Sets of classes and of methods, made once of a program.
 
-use crate::claim::{classes_below, ByClass};
-use crate::program::{Method, Program, VIRTUAL};
+use crate::claim::{classes_below, ByClass, NUMBERS, ZERO};
+use crate::opcode::{divides, BINOP, CHECK_CAST, IGET, INVOKE_VIRTUAL, IPUT, THROW};
+use crate::program::{Instruction, Method, Program, ARITHMETIC, CAST, NULL, THROWABLE, VIRTUAL};
 
 /// A set of methods, as bits.
 pub type Methods = u16;
-
-/// Class 1 is Throwable.
-const THROWABLE: usize = 1;
 
 pub struct Sets {
     /// For each class, itself and every class below it.
@@ -38,7 +36,27 @@ impl Sets {
     }
 
     pub fn throwable(&self) -> u64 {
-        self.below[THROWABLE]
+        self.below[usize::from(THROWABLE)]
+    }
+
+    /// The classes that an instruction itself raises, from these masks of the
+    /// registers: those of its throw, of null, of a division by zero and of a
+    /// failed cast.
+    #[inline]
+    pub fn raised(&self, Instruction { o, a, b, c, d }: Instruction, row: &[u64]) -> u64 {
+        let mask = |register: u8| row[usize::from(register)];
+        let if_zero = |register: u8, class: u8| u64::from(mask(register) & ZERO != 0) << class;
+        match o {
+            THROW => mask(a) & self.throwable() | if_zero(a, NULL),
+            IGET | IPUT => if_zero(b, NULL),
+            INVOKE_VIRTUAL => if_zero(c, NULL),
+            BINOP if divides(d) => if_zero(c, ARITHMETIC),
+            CHECK_CAST => {
+                let failing = mask(a) & !NUMBERS & !self.below[usize::from(b)];
+                u64::from(failing != 0) << CAST
+            }
+            _ => 0,
+        }
     }
 
     /// The methods that a virtual call can lead to, each with the bits of
@@ -93,22 +111,44 @@ mod tests {
         assert!(elements(1 << 63 | 1 << 5 | 1).eq([0, 5, 63]));
     }
 
-    /// Classes 2, 3, 4 one below the other, 5 beside 3. Class 3 has the name
-    /// with another count, and class 4 a static method of it.
+    /// Classes 5, 6, 7 one below the other, 8 beside 6. Class 6 has the name
+    /// with another count, and class 7 a static method of it.
     #[test]
     fn a_call_leads_to_the_nearest_that_fits() {
         let code = || vec![return_void()];
         let methods = vec![
             main_method(1, code()),
-            virtual_method((2, 7), 2, 1, code()),
-            virtual_method((3, 7), 2, 2, code()),
-            crate::program::Method::new(4, 7, 1, 2, 1).with_code(code()),
-            virtual_method((5, 7), 1, 1, code()),
+            virtual_method((5, 7), 2, 1, code()),
+            virtual_method((6, 7), 2, 2, code()),
+            Method::new(7, 7, 1, 2, 1).with_code(code()),
+            virtual_method((8, 7), 1, 1, code()),
         ];
-        let sets = Sets::new(&program(&[0, 0, 2, 3, 2], &[], 0, methods));
-        assert!(sets.callees(7, 1, 0b111111).eq([(1, 0b011100), (4, 0b100000)]));
-        assert!(sets.callees(7, 2, u64::MAX).eq([(2, 0b011000)]));
-        assert!(sets.callees(7, 1, 0b000011).next().is_none());
+        let sets = Sets::new(&whole_program(&[0, 1, 1, 1, 0, 5, 6, 5], &[], 0, methods));
+        assert!(sets.callees(7, 1, 0b1_1111_1111).eq([(1, 0b0_1110_0000), (4, 0b1_0000_0000)]));
+        assert!(sets.callees(7, 2, u64::MAX).eq([(2, 0b0_1100_0000)]));
+        assert!(sets.callees(7, 1, 0b0_0001_1111).next().is_none());
         assert!(sets.callees(6, 1, u64::MAX).next().is_none());
+    }
+
+    /// From masks in which all registers may be zero, a number or an object of
+    /// class 5, and class 6 lies below class 2.
+    #[test]
+    fn what_an_instruction_raises() {
+        let sets = Sets::new(&whole_program(&[0, 1, 1, 1, 0, NULL], &[5], 0, vec![]));
+        let raised = |instruction, mask: u64| sets.raised(instruction, &[NUMBERS, mask, NUMBERS]);
+        for instruction in [invoke_virtual(7, 2, 1), iget(0, 1, 0), iput(0, 1, 0), throw(1)] {
+            assert_eq!(raised(instruction, NUMBERS | 1 << 5), 1 << NULL);
+            assert_eq!(raised(instruction, NUMBERS & !ZERO | 1 << 5), 0);
+        }
+        assert_eq!(raised(throw(1), ZERO | 0b110_1011), 0b100_1110);
+        for operation in 0..11 {
+            let by_zero = if divides(operation) { 1 << ARITHMETIC } else { 0 };
+            assert_eq!(raised(binop(operation, 1, 1, 2), 1 << 5), by_zero);
+            assert_eq!(raised(binop(operation, 0, 0, 1), 1 << 5), 0);
+        }
+        assert_eq!(raised(check_cast(1, NULL), NUMBERS | 1 << NULL | 1 << 6), 0);
+        assert_eq!(raised(check_cast(1, NULL), 1 << THROWABLE | 1 << 6), 1 << CAST);
+        assert_eq!(raised(check_cast(1, 0), NUMBERS | 0b111_1111), 0);
+        assert_eq!(raised(invoke_static(0, 0, 0), NUMBERS), 0);
     }
 }

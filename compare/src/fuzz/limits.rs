@@ -34,6 +34,16 @@ pub fn value_at_an_edge(random: &mut Random, program: &Program) -> Vec<u8> {
     text(&frames)
 }
 
+/// One of the classes 2 to 4 below another class than Throwable, mostly one
+/// that is there.
+pub fn raised_elsewhere(random: &mut Random, program: &Program) -> Vec<u8> {
+    let mut program = program.clone();
+    let class = random.within(2..=4);
+    let superclass = random.pick(&[0, 0, 2, 3, 4, 5, 0xff]);
+    program.classes[class] = Class { superclass };
+    program.text()
+}
+
 /// The last instruction of a method made one that goes on.
 pub fn falling_through(random: &mut Random, program: &Program) -> Vec<u8> {
     let mut program = program.clone();
@@ -74,7 +84,7 @@ pub fn too_few(random: &mut Random, program: &Program) -> Vec<u8> {
     let mut program = program.clone();
     let method = random.below(program.methods.len());
     match random.below(4) {
-        0 => program.classes.truncate(random.below(2)),
+        0 => program.classes.truncate(random.below(5)),
         1 => program.methods.clear(),
         2 => program.methods[method].code.clear(),
         _ => {

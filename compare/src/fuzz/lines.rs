@@ -1,8 +1,10 @@
 //! The lines of the table, and their order.
 
 use super::ways;
+use crate::machine::fate::Fate;
 use crate::machine::MAX_STEPS;
 use crate::opcode;
+use crate::program::{CAST, NULL};
 
 #[derive(Clone, Copy, Debug, PartialEq, Eq, Hash)]
 pub enum Line {
@@ -24,6 +26,10 @@ pub enum Line {
     Dropped,
     CaughtHere,
     CaughtBelow,
+    /// What became of an object of this class that was raised.
+    Raised(u8, Fate),
+    /// The stepper's 20 where an exception would be raised.
+    FullRaising,
     /// The checker's refusals.
     Refused(u8),
     Violated(u8),
@@ -121,10 +127,11 @@ pub fn all() -> Vec<Line> {
     all.extend([false, true].map(Short));
     let stopped = [(20, false), (21, false), (22, false), (22, true), (24, false)];
     all.extend(stopped.map(|(number, pending)| Stopped(number, pending)));
-    all.extend([32, 33].into_iter().chain(41..=48).map(|number| Stopped(number, false)));
-    all.extend([MostSteps]);
+    all.extend([32, 33, 42, 43, 45, 46, 47].map(|number| Stopped(number, false)));
+    all.extend([FullRaising, MostSteps]);
     all.extend((0..=opcode::LAST).map(Opcode));
     all.extend([Returned, Dropped, CaughtHere, CaughtBelow]);
+    all.extend((NULL..=CAST).flat_map(|class| Fate::ALL.map(|fate| Raised(class, fate))));
     all.extend((1..=6).chain(9..=13).chain([23]).map(Refused));
     all.extend((0..=10).map(Violated));
     all.extend([Accepted, Calls, LongestList, Followed, StepsFollowed]);

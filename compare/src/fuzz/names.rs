@@ -19,8 +19,10 @@ impl Line {
             Line::Opcode(o) => format!("opcode {o:02x} executed, runs"),
             Line::Returned => "frames popped by a return to a caller, runs".to_string(),
             Line::Dropped => "frames dropped by an exception, runs".to_string(),
-            Line::CaughtHere => "handler taken in the frame of the throw, runs".to_string(),
+            Line::CaughtHere => "handler taken in the frame of the exception, runs".to_string(),
             Line::CaughtBelow => "handler taken across frames, runs".to_string(),
+            Line::Raised(class, fate) => format!("class {class} raised, {}, runs", fate.name()),
+            Line::FullRaising => "stepper: 20 where an exception would be raised".to_string(),
             Line::Refused(number) => format!("checker: {number}"),
             Line::Violated(rule) => format!("checker: violated, rule {rule}"),
             Line::Accepted => "checker: accepted".to_string(),
@@ -47,7 +49,7 @@ fn stopped(number: u8, pending: bool) -> String {
         (24, _) => "24 (no program that is read gives it)".to_string(),
         (32, _) => "32, done".to_string(),
         (33, _) => "33, uncaught".to_string(),
-        (41..=48, _) => format!("{number}, fault {}", number - 40),
+        (41.., _) => format!("{number}, fault {}", number - 40),
         _ => number.to_string(),
     }
 }

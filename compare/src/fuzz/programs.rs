@@ -54,7 +54,7 @@ fn wide_program(random: &mut Random) -> Program {
     let most_code = random.pick(&[1, 2, 3, 4, 8, 32]);
     let most_handlers = random.pick(&[0, 1, 2, 8]);
     let shape = Shape {
-        classes: random.pick(&[2, 3, 4, 6, 12, 59, 60]),
+        classes: random.pick(&[5, 6, 7, 9, 12, 59, 60]),
         fields: random.pick(&[0, 1, 2, 5, 15, 16]),
         statics: random.pick(&[0, 1, 2, 5, 15, 16]),
         methods: random.pick(&[1, 2, 3, 5, 15, 16]),

@@ -4,7 +4,8 @@ use super::claims::claim;
 use super::damage::damaged;
 use super::ground::Ground;
 use super::lengths::{lengths, steps, tame};
-use super::limits::{falling_through, long_text, too_few, value_at_an_edge, with_count};
+use super::limits::{falling_through, long_text, raised_elsewhere, too_few};
+use super::limits::{value_at_an_edge, with_count};
 use super::pool::Pool;
 use super::programs::grounds;
 use super::ways::{pick, CLAIMS, PROGRAMS};
@@ -90,6 +91,7 @@ fn program(random: &mut Random, ground: &Ground, way: &str) -> Vec<u8> {
         "values changed" => change_values(random, program.frames()),
         "value at an edge" => value_at_an_edge(random, program),
         "too few frames" => too_few(random, program),
+        "classes 2 to 4 elsewhere" => raised_elsewhere(random, program),
         "falling through" => falling_through(random, program),
         "empty" => Vec::new(),
         "too long" => long_text(random, &ground.text),

@@ -6,8 +6,11 @@ use super::lines::{all, Line, Part, Size, Steps};
 use super::watch::{watch, Seen};
 use super::Case;
 use crate::checker::{Verdict, LEAST_MEMORY};
+use crate::machine::fate::Fate;
 use crate::machine::structs::LEAST;
-use crate::machine::{Answer, MAX_STEPS};
+use crate::machine::{Answer, Report, MAX_STEPS};
+use crate::opcode::NEW_INSTANCE;
+use crate::program::NULL;
 use crate::writer::{text_length, Written};
 use std::collections::HashMap;
 
@@ -96,6 +99,9 @@ impl Table {
         if report.steps == MAX_STEPS {
             self.one(Line::MostSteps);
         }
+        if is_raising(expected, &report) && report.number == 20 {
+            self.one(Line::FullRaising);
+        }
         if let Some(program) = &expected.program {
             self.add_seen(&watch(program, case.n));
         }
@@ -112,6 +118,10 @@ impl Table {
             (seen.caught_below, Line::CaughtBelow),
         ];
         events.into_iter().filter(|(seen, _)| *seen).for_each(|(_, line)| self.one(line));
+        for (class, fates) in (NULL..).zip(seen.raised) {
+            let seen = Fate::ALL.into_iter().zip(fates).filter(|(_, seen)| *seen);
+            seen.for_each(|(fate, _)| self.one(Line::Raised(class, fate)));
+        }
     }
 
     fn add_verdict(&mut self, verdict: &Verdict) {
@@ -162,4 +172,14 @@ impl Table {
         };
         all().into_iter().map(line).collect()
     }
+}
+
+/// Whether the top frame stands at another instruction than new-instance: with
+/// 20 one that would raise an exception.
+fn is_raising(expected: &Expected, report: &Report) -> bool {
+    let frames = &expected.left.frames.lent()[..report.frames];
+    let (Some(top), Some(program)) = (frames.last(), &expected.program) else {
+        return false;
+    };
+    program.methods[top.method as usize].code[top.address as usize].o != NEW_INSTANCE
 }

@@ -1,10 +1,11 @@
 //! What a run reaches, seen one step at a time.
 
 use crate::coverage::instruction;
+use crate::machine::fate::{Exceptions, Fate};
 use crate::machine::moment::Moment;
 use crate::machine::run::Machine;
 use crate::machine::state::{Limits, Stop};
-use crate::program::Program;
+use crate::program::{Program, NULL};
 
 /// So many steps of a run are watched.
 pub const WATCHED: u64 = 512;
@@ -17,31 +18,32 @@ pub struct Seen {
     /// exception.
     pub returned: bool,
     pub dropped: bool,
-    /// A handler took an object in the frame that threw it, or below.
+    /// A handler took an object in the frame that threw or raised it, or below.
     pub caught_here: bool,
     pub caught_below: bool,
+    /// For each of classes 2 to 4 the fates of what was raised.
+    pub raised: [[bool; Fate::ALL.len()]; 3],
 }
 
 /// The first steps of a run, at most `n`.
 pub fn watch(program: &Program, n: u64) -> Seen {
     let mut seen = Seen::default();
     let mut machine = Machine::new(program, Limits::STEPPER);
-    let mut dropped = false;
+    let mut exceptions = Exceptions::default();
     let most = n.min(WATCHED);
     while let Some(before) = Moment::of(&machine).filter(|_| machine.steps < most) {
         let stop = machine.run(machine.steps + 1);
         if before.executed(&machine) {
             seen.opcodes |= 1 << instruction(program, &before).o;
             seen.returned |= before.closed(&machine) && !machine.frames.is_empty();
-            dropped = false;
         }
-        if before.left(&machine).is_some() {
-            dropped = true;
-            seen.dropped = true;
-        }
-        if before.caught(&machine) {
-            seen.caught_here |= !dropped;
-            seen.caught_below |= dropped;
+        seen.dropped |= before.left(&machine).is_some();
+        if let Some((fate, raised)) = exceptions.step(&before, &machine) {
+            seen.caught_here |= fate == Fate::CaughtHere;
+            seen.caught_below |= fate == Fate::CaughtBelow;
+            if let Some(class) = raised {
+                seen.raised[usize::from(class - NULL)][fate as usize] = true;
+            }
         }
         if stop != Stop::StepsMade {
             break;

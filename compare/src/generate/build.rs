@@ -2,7 +2,7 @@
 
 use crate::opcode::{INVOKE_STATIC, NOP, RETURN_VOID};
 use crate::program::{Class, Field, Handler, Instruction, Method, Program};
-use crate::program::{NO_SUPERCLASS, STATIC};
+use crate::program::{NO_SUPERCLASS, STATIC, THROWABLE};
 
 pub fn nop() -> Instruction {
     Instruction::new(NOP, 0, 0, 0, 0)
@@ -19,10 +19,18 @@ pub fn idle_code(length: usize) -> Vec<Instruction> {
     code
 }
 
-/// Every class but class 0 lies right below class 0.
+/// The superclass of a class in a text where most lie right below class 0.
+pub fn flat_superclass(class: usize) -> u8 {
+    match class {
+        0 => NO_SUPERCLASS,
+        2..=4 => THROWABLE,
+        _ => 0,
+    }
+}
+
+/// As many classes, each as near to class 0 as it may be.
 pub fn flat_classes(count: usize) -> Vec<Class> {
-    let superclass = |number| if number == 0 { NO_SUPERCLASS } else { 0 };
-    (0..count).map(|number| Class { superclass: superclass(number) }).collect()
+    (0..count).map(|class| Class { superclass: flat_superclass(class) }).collect()
 }
 
 /// Method 0: static, without arguments.
@@ -42,13 +50,13 @@ pub fn tables(classes: usize, fields: usize, statics: usize) -> Program {
 
 /// The smallest program.
 pub fn smallest() -> Program {
-    tables(2, 0, 0)
+    tables(5, 0, 0)
 }
 
-/// A program with frames of all six kinds, 13 lines long.
+/// A program with frames of all six kinds, 15 lines long.
 pub fn every_kind() -> Program {
     let call = Instruction::new(INVOKE_STATIC, 1, 0, 0, 0);
-    let mut program = tables(3, 1, 2);
+    let mut program = tables(5, 1, 2);
     program.methods = vec![
         Method::new(0, 0, STATIC, 2, 0)
             .with_code(vec![call, return_void()])

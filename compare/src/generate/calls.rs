@@ -30,7 +30,8 @@ fn virtual_calls() -> Vec<Case> {
                 program.methods[0].code = code_with(call);
                 let sum = u32::from(count) + u32::from(first);
                 let allowed = count != 0 && sum <= u32::from(registers);
-                cases.push(Case::allowed(program.text(), allowed, 4));
+                let line = instruction_line(&program, 0, 0);
+                cases.push(Case::allowed(program.text(), allowed, line));
             }
         }
     }
@@ -61,7 +62,8 @@ fn static_calls() -> Vec<Case> {
                     0 => first == 0,
                     _ => u32::from(count) + u32::from(first) <= u32::from(registers),
                 };
-                cases.push(Case::allowed(program.text(), count == arguments && fits, 4));
+                let line = instruction_line(&program, 0, 0);
+                cases.push(Case::allowed(program.text(), count == arguments && fits, line));
             }
         }
     }
@@ -103,8 +105,8 @@ fn bad_callee_headers() -> Vec<Case> {
         change(&mut program.methods[1]);
         program.text()
     };
-    let at_call = 4;
-    let at_callee = 6;
+    let at_call = 7;
+    let at_callee = 9;
     let as_written =
         |change: &dyn Fn(&mut Method)| Case::refused(with_callee(change), 5, at_callee);
     let not_static = |kind| Case::refused(with_callee(&|m| m.kind = kind), 5, at_call);
@@ -112,7 +114,7 @@ fn bad_callee_headers() -> Vec<Case> {
         Case::read(with_callee(&|_| ())),
         as_written(&|m| m.registers = 0),
         as_written(&|m| m.registers = 17),
-        as_written(&|m| m.class = 2),
+        as_written(&|m| m.class = 5),
         as_written(&|m| (m.class, m.name) = (0, 0)),
     ];
     cases.extend([0, 2, 0x80, 0xff].map(not_static));
@@ -158,7 +160,7 @@ fn alike() -> Vec<Case> {
 /// Methods of classes 0 and 1 with different names, the last ones 0 and ff.
 fn five_methods() -> Program {
     let mut program = smallest();
-    program.classes = flat_classes(3);
+    program.classes = flat_classes(6);
     program.methods = [(0, 1), (0, 2), (1, 3), (0, 0), (1, 0xff)]
         .into_iter()
         .map(|(class, name)| Method::new(class, name, STATIC, 1, 0).with_code(idle_code(1)))

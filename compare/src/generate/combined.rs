@@ -125,9 +125,11 @@ fn falling_code() -> Vec<Case> {
             let first_line = instruction_line(&falling, method, 0);
             cases.push(Case::refused(earlier.text(), 5, first_line));
 
-            let mut class = falling.clone();
-            class.classes[1].superclass = 1;
-            cases.push(Case::refused(class.text(), 5, 2));
+            for class in [1, 2 + method] {
+                let mut itself = falling.clone();
+                itself.classes[class].superclass = class as u8;
+                cases.push(Case::refused(itself.text(), 5, class as u32 + 1));
+            }
 
             let mut header = falling.clone();
             header.methods[method].registers = 17;

@@ -63,7 +63,7 @@ fn lengths() -> Vec<Case> {
 fn bytes() -> Vec<Case> {
     let mut cases = Vec::new();
     for (which, byte) in NO_DIGITS.into_iter().enumerate() {
-        for number in [1, 4 + which % 9, 13] {
+        for number in [1, 4 + which % 11, 15] {
             let line = lines()[number - 1].clone();
             let digits = line.len() - 1;
             for place in [0, digits / 2, digits - 1] {
@@ -77,7 +77,7 @@ fn bytes() -> Vec<Case> {
         }
         cases.push(Case::refused(vec![byte], 2, 1));
         cases.push(Case::refused(vec![byte, byte, b'\n'], 2, 1));
-        cases.push(Case::refused([every_kind().text(), vec![byte]].concat(), 2, 14));
+        cases.push(Case::refused([every_kind().text(), vec![byte]].concat(), 2, 16));
     }
     let returns: Vec<u8> =
         lines().into_iter().flat_map(|l| [&l[..l.len() - 1], b"\r\n"].concat()).collect();
@@ -130,14 +130,14 @@ fn line_ends() -> Vec<Case> {
 fn kinds() -> Vec<Case> {
     let mut cases = Vec::new();
     for (which, kind) in NO_KINDS.into_iter().enumerate() {
-        for number in [1, 4 + which % 9, 13] {
+        for number in [1, 4 + which % 11, 15] {
             for length in [1, 2, 3 + which % 7] {
                 let mut frame = vec![0; length];
                 frame[0] = kind;
                 cases.push(Case::refused(replaced(number, line(&frame)), 3, number as u32));
             }
         }
-        cases.push(Case::refused([every_kind().text(), line(&[kind])].concat(), 3, 14));
+        cases.push(Case::refused([every_kind().text(), line(&[kind])].concat(), 3, 16));
     }
     cases
 }
@@ -146,7 +146,7 @@ fn kinds() -> Vec<Case> {
 fn frame_lengths() -> Vec<Case> {
     let frames = every_kind().frames();
     let mut cases = Vec::new();
-    for index in [0, 1, 3, 5, 6, 7, 8, 9, 10, 12] {
+    for index in [0, 1, 3, 5, 7, 8, 9, 10, 11, 12, 14] {
         let right = frames[index].len();
         for length in (1..right + 3).chain([right + 128, right + 256]) {
             if length != right {
@@ -162,7 +162,7 @@ fn frame_lengths() -> Vec<Case> {
 /// Lines longer than any frame: kind 00, an odd count, a bad byte at the end.
 fn long_lines() -> Vec<Case> {
     let mut cases = Vec::new();
-    for (digits, number) in [(100, 1), (256, 3), (510, 13), (512, 7), (514, 8), (3000, 10)] {
+    for (digits, number) in [(100, 1), (256, 3), (510, 15), (512, 7), (514, 8), (3000, 10)] {
         let at = number as u32;
         cases.push(Case::refused(replaced(number, zeros(digits)), 3, at));
         cases.push(Case::refused(replaced(number, zeros(digits + 1)), 2, at));

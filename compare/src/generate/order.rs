@@ -1,31 +1,40 @@
 //! The order and the counts of frames: refusal 4.
 
+use super::build::flat_superclass;
 use super::Case;
 use crate::frame::{text, CLASS, FIELD, HANDLER, INSTRUCTION, METHOD, STATIC};
 use crate::opcode::RETURN_VOID;
 
 const KINDS: [u8; 6] = [CLASS, FIELD, STATIC, METHOD, HANDLER, INSTRUCTION];
 
+/// Classes that there must be.
+const LEAST_CLASSES: usize = 5;
+
 /// Beginnings that can stand, as the digits of the kinds.
-const BEGINNINGS: [&str; 14] = [
-    "", "1", "11", "112", "113", "1123", "114", "11234", "1146", "11465", "114664", "1146646",
-    "11465465", "114654",
+const BEGINNINGS: [&str; 17] = [
+    "", "1", "11", "111", "1111", "c", "c2", "c3", "c23", "c4", "c234", "c46", "c465", "c4664",
+    "c46646", "c465465", "c4654",
 ];
 
 pub fn cases() -> Vec<Case> {
     let mut texts: Vec<Vec<u8>> = Vec::new();
     texts.extend(pairs());
-    texts.extend(all_after("11", 2));
-    texts.extend(all_after("1146", 3));
+    texts.extend(all_after("1111", 2));
+    texts.extend(all_after("c", 2));
+    texts.extend(all_after("c46", 3));
     texts.extend(class_counts());
     texts.extend(counts());
     texts.extend(method_counts());
     texts.iter().map(|kinds| case(kinds)).collect()
 }
 
-/// The kinds written as digits.
+/// The kinds written as digits, and `c` for as many classes as there must be.
 fn kinds(digits: &str) -> Vec<u8> {
-    digits.bytes().map(|digit| digit - b'0').collect()
+    let kinds = |digit| match digit {
+        b'c' => vec![CLASS; LEAST_CLASSES],
+        _ => vec![digit - b'0'],
+    };
+    digits.bytes().flat_map(kinds).collect()
 }
 
 /// Each beginning, each kind after it, and then nothing, a method with code,
@@ -57,7 +66,7 @@ fn all_after(beginning: &str, length: u32) -> Vec<Vec<u8>> {
 /// Too few and too many classes before each kind that may follow them.
 fn class_counts() -> Vec<Vec<u8>> {
     let mut texts = Vec::new();
-    for count in [0, 1, 2, 3, 59, 60, 61, 62] {
+    for count in [0, 1, 2, 3, 4, 5, 6, 59, 60, 61, 62] {
         let classes = vec![CLASS; count];
         texts.push(classes.clone());
         for rest in ["46", "246", "346", "2346", "6", "5"] {
@@ -73,26 +82,26 @@ fn class_counts() -> Vec<Vec<u8>> {
 fn counts() -> Vec<Vec<u8>> {
     let mut texts = Vec::new();
     for (kind, limit, before, after) in [
-        (FIELD, 16, "11", "46"),
-        (FIELD, 16, "11", "346"),
-        (STATIC, 16, "11", "46"),
-        (STATIC, 16, "112", "46"),
-        (INSTRUCTION, 32, "114", ""),
-        (INSTRUCTION, 32, "114", "546"),
-        (INSTRUCTION, 32, "114654", "5"),
-        (INSTRUCTION, 32, "114654", "46"),
-        (HANDLER, 8, "1146", ""),
-        (HANDLER, 8, "11466", "46"),
-        (HANDLER, 8, "1146466", ""),
-        (HANDLER, 8, "11465466", "465"),
+        (FIELD, 16, "c", "46"),
+        (FIELD, 16, "c", "346"),
+        (STATIC, 16, "c", "46"),
+        (STATIC, 16, "c2", "46"),
+        (INSTRUCTION, 32, "c4", ""),
+        (INSTRUCTION, 32, "c4", "546"),
+        (INSTRUCTION, 32, "c4654", "5"),
+        (INSTRUCTION, 32, "c4654", "46"),
+        (HANDLER, 8, "c46", ""),
+        (HANDLER, 8, "c466", "46"),
+        (HANDLER, 8, "c46466", ""),
+        (HANDLER, 8, "c465466", "465"),
     ] {
         for count in [0, 1, limit - 1, limit, limit + 1, limit + 2] {
             texts.push([kinds(before), vec![kind; count], kinds(after)].concat());
         }
     }
-    texts.push([kinds("11"), vec![STATIC; 257], kinds("46")].concat());
-    texts.push([kinds("11"), vec![FIELD; 257], kinds("46")].concat());
-    texts.push([kinds("1146"), vec![HANDLER; 257]].concat());
+    texts.push([kinds("c"), vec![STATIC; 257], kinds("46")].concat());
+    texts.push([kinds("c"), vec![FIELD; 257], kinds("46")].concat());
+    texts.push([kinds("c46"), vec![HANDLER; 257]].concat());
     texts
 }
 
@@ -102,7 +111,7 @@ fn method_counts() -> Vec<Vec<u8>> {
     for body in ["46", "465", "466"] {
         for count in [0, 1, 2, 15, 16, 17, 18] {
             for after in ["", "4", "6", "5"] {
-                texts.push([kinds("11"), kinds(body).repeat(count), kinds(after)].concat());
+                texts.push([kinds("c"), kinds(body).repeat(count), kinds(after)].concat());
             }
         }
     }
@@ -117,7 +126,7 @@ fn case(kinds: &[u8]) -> Case {
         .iter()
         .enumerate()
         .map(|(index, &kind)| match kind {
-            CLASS => vec![CLASS, if index == 0 { 0xff } else { 0 }],
+            CLASS => vec![CLASS, flat_superclass(index)],
             FIELD => vec![FIELD, 1],
             STATIC => vec![STATIC],
             METHOD => {
@@ -144,7 +153,7 @@ fn first_misplaced(kinds: &[u8]) -> Option<usize> {
         let stands = match (before, kind) {
             (0, CLASS) => true,
             (CLASS, CLASS) => run < 60,
-            (CLASS, FIELD | STATIC | METHOD) => run >= 2,
+            (CLASS, FIELD | STATIC | METHOD) => run >= LEAST_CLASSES,
             (FIELD, FIELD) | (STATIC, STATIC) => run < 16,
             (FIELD, STATIC | METHOD) | (STATIC, METHOD) => true,
             (METHOD, INSTRUCTION) | (INSTRUCTION, HANDLER) => true,

@@ -1,10 +1,10 @@
 //! Programs of many shapes, all of them allowed.
 
-use super::build::{every_kind, idle_code, smallest, tables};
+use super::build::{every_kind, flat_superclass, idle_code, smallest};
 use super::Case;
 use crate::opcode::*;
 use crate::program::{Class, Field, Handler, Instruction, Method, Program};
-use crate::program::{NO_SUPERCLASS, STATIC, VIRTUAL};
+use crate::program::{STATIC, VIRTUAL};
 use crate::random::Random;
 use std::ops::RangeInclusive;
 
@@ -51,7 +51,7 @@ fn operations() -> Vec<Program> {
     let binary = (0..BINARY_OPERATIONS).map(|d| Instruction::new(BINOP, 0, 0, 0, d));
     let unary = (0..UNARY_OPERATIONS).map(|c| Instruction::new(UNOP, 0, 0, c, 0));
     let with_instruction = |instruction| {
-        let mut program = tables(2, 0, 0);
+        let mut program = smallest();
         program.methods[0].code = idle_code(2);
         program.methods[0].code[0] = instruction;
         program
@@ -67,7 +67,7 @@ pub fn small_program(random: &mut Random) -> Program {
 
 fn small_shape(random: &mut Random) -> Shape {
     Shape {
-        classes: random.within(2..=5),
+        classes: random.within(5..=8),
         fields: random.below(4),
         statics: random.below(4),
         methods: random.within(1..=4),
@@ -81,7 +81,10 @@ pub fn program(random: &mut Random, shape: &Shape) -> Program {
     let classes = shape.classes as u8;
     let mut program = Program { statics: shape.statics, ..Program::default() };
     for number in 0..classes {
-        let superclass = if number == 0 { NO_SUPERCLASS } else { random.byte_below(number) };
+        let superclass = match number {
+            0..=4 => flat_superclass(number.into()),
+            _ => random.byte_below(number),
+        };
         program.classes.push(Class { superclass });
     }
     for _ in 0..shape.fields {

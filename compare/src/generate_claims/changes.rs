@@ -10,7 +10,7 @@ use crate::random::Random;
 use std::collections::BTreeMap;
 
 /// At most this many bits of a least claim are taken away, one a case.
-const MOST_TAKEN: usize = 18;
+const MOST_TAKEN: usize = 16;
 
 /// At most this many bits are tried for a choice among them.
 const TRIES: usize = 80;

@@ -72,7 +72,7 @@ fn nested() -> Program {
     of(vec![main_method(2, three_thrown()).with_handlers(handlers)])
 }
 
-/// Numbers and objects that are no Throwable raise nothing.
+/// Numbers other than zero and objects that are no Throwable raise nothing.
 fn not_thrown() -> Program {
     let code = vec![
         branch_zero(EQ, 0, 3),

@@ -6,23 +6,16 @@ use crate::checker::Verdict;
 use crate::claim::write::{text, ClaimFrame};
 use crate::claim::{MAX_LENGTH, RETURNED};
 use crate::least::{greatest, least};
-use crate::program::{Handler, Instruction, Method, Program, STATIC};
+use crate::program::{Handler, Instruction, Method, Program, NULL, STATIC, THROWABLE};
 
 const REGISTERS: u8 = 16;
 const LENGTH: usize = 32;
-/// Class 59 is the last of 60; fields are those of class 0, had by all.
-const SUPERCLASSES: [u8; 59] = {
-    let mut superclasses = [0; 59];
-    let mut number = 0;
-    while number < 59 {
-        superclasses[number] = (number / 2) as u8;
-        number += 1;
-    }
-    superclasses
-};
 
+/// Class 59 is the last of 60; fields are those of class 0, had by all.
 fn largest(methods: Vec<Method>) -> Program {
-    program(&SUPERCLASSES, &[0; 16], 16, methods)
+    let above = |class: u8| if class == NULL { THROWABLE } else { (class - 1) / 2 };
+    let superclasses: Vec<u8> = (1..60).map(above).collect();
+    whole_program(&superclasses, &[0; 16], 16, methods)
 }
 
 /// The last instruction of every method.

@@ -21,7 +21,7 @@ fn of_the_sample() -> Vec<Case> {
     frames[1].masks[1] = 0;
     let violated = Case::of(&program, &frames);
     let refused = Case::new(program.text(), text(&sample::frames()[..6]));
-    let no_program = Case::new(program.text()[..20].to_vec(), text(&frames));
+    let no_program = Case::new(program.text()[..30].to_vec(), text(&frames));
     let mut cases = Vec::new();
     for length in LESS.into_iter().chain(ENOUGH) {
         let enough = ENOUGH.contains(&length);
@@ -33,7 +33,7 @@ fn of_the_sample() -> Vec<Case> {
             cases.extend([&accepted, &violated].map(too_little));
         }
         cases.push(refused.clone().lending(length).refused(12, 7));
-        cases.push(no_program.clone().lending(length).refused(2, 3));
+        cases.push(no_program.clone().lending(length).refused(2, 6));
     }
     cases
 }

@@ -113,7 +113,7 @@ fn empty(ground: &Ground) -> Vec<Case> {
 
 /// With 60 classes only bits 60 and 61 are not allowed.
 fn sixty_classes() -> Vec<Case> {
-    let program = program(&[0; 59], &[], 0, vec![main_method(1, vec![return_void()])]);
+    let program = program(&[0; 56], &[], 0, vec![main_method(1, vec![return_void()])]);
     let with_bit = |bit: u32| {
         let mut claim: Claim = least(&program);
         claim.row_mut(0, 0)[0] |= 1 << bit;

@@ -8,12 +8,12 @@ use crate::frame::line;
 use crate::least::least;
 use crate::program::Program;
 
-/// A program whose claim has frames of all kinds, 13 lines. Class 1 has field
-/// 0, and every class has field 1.
+/// A program of seven classes whose claim has frames of all kinds, 13 lines.
+/// Class 5 has field 1, and class 6 below it all three fields.
 pub fn program_of_all_kinds() -> Program {
     let main = vec![invoke_static(1, 1, 0), return_void()];
     let methods = vec![main_method(2, main), static_method(1, 1, 1, vec![return_void()])];
-    program(&[0, 0], &[1, 0], 2, methods)
+    program(&[0, 0, 2], &[3, 2, 3], 2, methods)
 }
 
 /// The program, and the lines of its least claim.
@@ -149,10 +149,10 @@ fn bits(ground: &Ground, place: usize) -> Vec<Case> {
             frame.masks[mask] |= 1 << bit;
             ground.with_line(place, line(&frame.bytes()))
         };
-        let forbidden = [3, 4 + (17 * number) % 50, 59, 60, 61];
+        let forbidden = [7, 8 + (17 * number) % 50, 59, 60, 61];
         let all = forbidden.iter().chain(numbers);
         cases.extend(all.map(|&bit| with_bit(bit).refused(13, number)));
-        cases.push(with_bit(2));
+        cases.push(with_bit(6));
     }
     cases
 }

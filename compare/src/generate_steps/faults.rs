@@ -1,7 +1,9 @@
-//! Faults, each with state around it, and the order of their tests.
+//! Faults, each with state around it, and the order of their tests. What raises
+//! is left to other cases, but for values that are tested before it.
 
 use super::Case;
 use crate::assembly::*;
+use crate::opcode::divides;
 use crate::program::{Handler, Instruction, Method, Program};
 
 /// Class 3 lies below 2, class 4 below Throwable.
@@ -38,34 +40,31 @@ fn instructions() -> Vec<(Instruction, u8)> {
     let mut all = Vec::new();
     for field in [0, 1] {
         let had = if field == 0 { 0 } else { 5 };
-        let objects = [(ZERO, 1), (ONE, 2), (LEAST, 2), (TWO_KIND, had), (THREE_KIND, 0)];
+        let objects = [(ONE, 2), (LEAST, 2), (TWO_KIND, had), (THREE_KIND, 0)];
         for (object, fault) in objects.into_iter().chain([(THROWABLE, 5)]) {
             all.extend([(iget(6, object, field), fault), (iput(6, object, field), fault)]);
             all.push((iget(object, object, field), fault));
         }
     }
     for operation in [ADD, DIV, REM, USHR] {
-        let by_zero = if matches!(operation, DIV | REM) { 4 } else { 0 };
-        let pairs = [
-            (ZERO, ONE, 0),
-            (LEAST, ZERO, by_zero),
-            (ZERO, ZERO, by_zero),
-            (TWO_KIND, ZERO, 3),
-            (ZERO, TWO_KIND, 3),
-            (THROWABLE, THREE_KIND, 3),
-        ];
-        all.extend(pairs.map(|(left, right, fault)| (binop(operation, 6, left, right), fault)));
+        let mut pairs = vec![(ZERO, ONE, 0), (TWO_KIND, ZERO, 3), (ZERO, TWO_KIND, 3)];
+        pairs.push((THROWABLE, THREE_KIND, 3));
+        if !divides(operation) {
+            pairs.extend([(LEAST, ZERO, 0), (ZERO, ZERO, 0)]);
+        }
+        let instruction = |(left, right, fault)| (binop(operation, 6, left, right), fault);
+        all.extend(pairs.into_iter().map(instruction));
     }
     all.extend([(unop(NEG, 6, LEAST), 0), (unop(NOT, 6, THROWABLE), 3)]);
     for (name, count, fault) in [(5, 1, 0), (5, 2, 6), (6, 1, 6), (0, 1, 6)] {
-        let receivers = [(ZERO, 1), (LEAST, 2), (ONE, 2), (THREE_KIND, fault), (THROWABLE, 6)];
+        let receivers = [(LEAST, 2), (ONE, 2), (THREE_KIND, fault), (THROWABLE, 6)];
         all.extend(receivers.map(|(first, fault)| (invoke_virtual(name, count, first), fault)));
     }
-    all.extend([(ZERO, 1), (ONE, 2), (LEAST, 2), (TWO_KIND, 7)].map(|(a, k)| (throw(a), k)));
-    for (value, cast) in [(ZERO, 0), (ONE, 2), (LEAST, 2), (TWO_KIND, 8), (THREE_KIND, 0)] {
-        let asked = if cast == 2 { 2 } else { 0 };
-        all.extend([(check_cast(value, 3), cast), (instance_of(6, value, 3), asked)]);
+    all.extend([(ONE, 2), (LEAST, 2), (TWO_KIND, 7)].map(|(a, fault)| (throw(a), fault)));
+    for (value, fault) in [(ZERO, 0), (ONE, 2), (LEAST, 2), (THREE_KIND, 0)] {
+        all.extend([(check_cast(value, 3), fault), (instance_of(6, value, 3), fault)]);
     }
+    all.extend([(check_cast(TWO_KIND, 0), 0), (instance_of(6, TWO_KIND, 3), 0)]);
     for condition in [LT, GE, GT, LE] {
         all.extend([(branch(condition, ONE, THROWABLE, 1), 3), (branch(condition, 4, 4, 1), 3)]);
         all.extend([(branch_zero(condition, TWO_KIND, 1), 3), (branch(condition, 3, 0, 1), 3)]);

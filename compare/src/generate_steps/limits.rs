@@ -68,6 +68,9 @@ fn last_step() -> Vec<Case> {
         Case::of(&counting(2, return_void()), u64::MAX).giving(22),
         Case::of(&counting(1, throw(1)), u64::MAX).giving(42),
         Case::of(&counting(2, throw(0)), MAX_STEPS + 1).giving(22),
+        // Null raised by the last step, and by the one before it.
+        Case::of(&counting(1, throw(0)), u64::MAX).giving(22),
+        Case::of(&counting(0, throw(0)), MAX_STEPS).giving(33),
     ]
 }
 

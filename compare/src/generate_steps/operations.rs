@@ -2,7 +2,7 @@
 
 use super::Case;
 use crate::assembly::*;
-use crate::opcode::{BINARY_OPERATIONS, CONDITIONS, UNARY_OPERATIONS};
+use crate::opcode::{divides, BINARY_OPERATIONS, CONDITIONS, UNARY_OPERATIONS};
 use crate::program::{Instruction, Program};
 use crate::random::Random;
 
@@ -30,7 +30,7 @@ fn still(mut code: Vec<Instruction>) -> Vec<Instruction> {
 fn binary() -> Vec<Case> {
     let mut cases = Vec::new();
     for operation in 0..BINARY_OPERATIONS {
-        let divides = matches!(operation, DIV | REM);
+        let divides = divides(operation);
         for (place, &x) in ENDS.iter().enumerate() {
             let mut code = vec![constant(0, x)];
             let allowed = ENDS.iter().filter(|&&y| !(divides && y == 0));
@@ -41,14 +41,14 @@ fn binary() -> Vec<Case> {
             cases.push(Case::of(&alone(16, still(code)), steps as u64).giving(22));
             if divides {
                 let code = vec![constant(0, x), binop(operation, 2, 0, 1), return_void()];
-                cases.push(Case::of(&alone(3, code), 9).giving(44));
+                cases.push(Case::of(&alone(3, code), 9).giving(33));
             }
             if place % 2 == 1 {
                 continue;
             }
             // All three registers are one.
             let code = vec![constant(0, x), binop(operation, 0, 0, 0), sput(0, 0), return_void()];
-            let number = if divides && x == 0 { 44 } else { 32 };
+            let number = if divides && x == 0 { 33 } else { 32 };
             cases.push(Case::of(&alone(1, code), 9).giving(number));
         }
     }

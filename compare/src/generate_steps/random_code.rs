@@ -125,7 +125,7 @@ impl<'t> Writer<'t> {
             let from = self.random.below(length.min(6));
             let to = self.random.within(from + 1..=length);
             let target = self.random.pick(&self.starts) as u8;
-            let class = self.random.pick(&[0, 1, 1, self.tables.classes - 1]);
+            let class = self.random.pick(&[0, 1, 1, 2, 3, 4, self.tables.classes - 1]);
             handlers.push(Handler::new(from as u8, to as u8, target, class));
         }
         if self.random.once_in(2) {

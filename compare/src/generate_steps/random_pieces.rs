@@ -9,7 +9,7 @@ impl Writer<'_> {
         let number = self.register(Kind::Number);
         let object = self.register(Kind::Object);
         let class = self.class();
-        match self.random.below(24) {
+        match self.random.below(25) {
             0..=5 => self.operation(),
             6..=8 => self.branching(),
             9 => vec![constant(number, self.random.within(0..=40) as i32 - 8)],
@@ -20,6 +20,7 @@ impl Writer<'_> {
             20 => vec![instance_of(number, object, class)],
             21 => vec![check_cast(object, if self.random.once_in(8) { class } else { 0 })],
             22 => vec![self.random.pick(&[move_exception(8), move_result(7), nop()])],
+            23 => self.raising(),
             _ => match self.random.below(6) {
                 0..=2 => vec![throw(NUMBERS)],
                 3 => vec![throw(object)],
@@ -27,6 +28,22 @@ impl Writer<'_> {
                 _ => vec![nop()],
             },
         }
+    }
+
+    /// Null or zero where an object or a divisor is due, or a narrow cast.
+    fn raising(&mut self) -> Vec<Instruction> {
+        let number = self.register(Kind::Number);
+        let object = self.register(Kind::Object);
+        let mut last = vec![
+            binop(self.random.pick(&[DIV, REM]), number, number, SCRATCH),
+            invoke_virtual(self.random.byte_below(4), 1, SCRATCH),
+            throw(SCRATCH),
+            check_cast(object, self.class()),
+        ];
+        if self.tables.fields > 0 {
+            last.extend([iget(number, SCRATCH, 0), iput(number, SCRATCH, 0)]);
+        }
+        vec![constant(SCRATCH, 0), self.random.pick(&last)]
     }
 
     fn operation(&mut self) -> Vec<Instruction> {

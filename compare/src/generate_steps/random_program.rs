@@ -2,14 +2,14 @@
 
 use super::random_code::{Kind, Signature, Tables, Writer, FIRST_ARGUMENT};
 use super::Case;
-use crate::assembly::program;
+use crate::assembly::{whole_program, RAISED};
 use crate::generate::shapes::small_program;
-use crate::program::{Method, Program, STATIC, VIRTUAL};
+use crate::program::{Method, Program, STATIC, THROWABLE, VIRTUAL};
 use crate::random::Random;
 
 pub fn cases() -> Vec<Case> {
     let mut random = Random::new(53);
-    let mut cases: Vec<Case> = (0..740).map(|_| likely_case(&mut random)).collect();
+    let mut cases: Vec<Case> = (0..660).map(|_| likely_case(&mut random)).collect();
     cases.extend((0..110).map(|_| {
         let program = small_program(&mut random);
         Case::of(&program, random.within(0..=30) as u64)
@@ -68,10 +68,11 @@ fn owners(random: &mut Random, classes: u8, methods: &[Signature]) -> Vec<u8> {
 
 /// A program that mostly goes on for a while.
 pub fn likely_program(random: &mut Random) -> Program {
-    let classes = random.within(5..=8) as u8;
-    let superclasses: Vec<u8> = (1..classes)
-        .map(|class| if class > 1 && random.once_in(3) { 1 } else { random.byte_below(class) })
-        .collect();
+    let classes = random.within(8..=10) as u8;
+    let others =
+        (5..classes)
+            .map(|class| if random.once_in(3) { THROWABLE } else { random.byte_below(class) });
+    let superclasses: Vec<u8> = [0].into_iter().chain(RAISED).chain(others).collect();
     let fields: Vec<u8> = (0..random.below(6))
         .map(|_| if random.once_in(6) { random.byte_below(classes) } else { 0 })
         .collect();
@@ -86,7 +87,7 @@ pub fn likely_program(random: &mut Random) -> Program {
         .zip(owners)
         .map(|(number, owner)| likely_method(random, &tables, number, owner))
         .collect();
-    program(&superclasses, &fields, usize::from(tables.statics), methods)
+    whole_program(&superclasses, &fields, usize::from(tables.statics), methods)
 }
 
 fn likely_method(random: &mut Random, tables: &Tables, number: usize, owner: u8) -> Method {

@@ -63,14 +63,14 @@ fn deep(open: i32, by_name: bool, last: Vec<Instruction>, catching: usize) -> Pr
     program(&CLASSES, &[3], 3, methods)
 }
 
-/// Each thing that can happen at 31 and 32 frames: faults before 21, 21,
-/// objects made.
+/// Each thing that can happen at 31 and 32 frames: faults and exceptions before
+/// 21, 21, objects made.
 fn at_the_end(by_name: bool) -> Vec<Case> {
     let endings = [
         (vec![invoke_virtual(1, 1, 2), return_void()], 46),
         (vec![invoke_virtual(2, 2, 2), return_void()], 46),
         (vec![sget(0, 1), invoke_virtual(1, 2, 0), return_void()], 46),
-        (vec![constant(0, 0), invoke_virtual(1, 2, 0), return_void()], 41),
+        (vec![constant(0, 0), invoke_virtual(1, 2, 0), return_void()], 33),
         (vec![constant(0, -1), invoke_virtual(1, 2, 0), return_void()], 42),
         (vec![constant(0, 1), invoke_virtual(9, 1, 0), return_void()], 42),
         (vec![invoke_static(0, 0, 0), return_void()], 21),

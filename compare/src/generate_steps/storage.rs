@@ -141,7 +141,7 @@ fn full() -> Vec<Case> {
         (vec![throw(2)], 47),
         (vec![iget(0, 3, 0), iput(3, 3, 0), invoke_virtual(9, 1, 3), return_void()], 32),
         (vec![iget(0, 3, 1), return_void()], 45),
-        (vec![instance_of(0, 2, 4), check_cast(2, 4), check_cast(3, 4), return_void()], 48),
+        (vec![instance_of(0, 2, 4), check_cast(2, 4), check_cast(3, 4), return_void()], 20),
         (vec![new_instance(0, 0), new_instance(0, 0), return_void()], 20),
     ] {
         cases.push(Case::of(&making(256, last), 5_000).giving(number));

@@ -175,7 +175,8 @@ fn kept_in_a_static() -> Program {
     of(methods)
 }
 
-/// Numbers and objects of other classes raise nothing, whatever is covered.
+/// Numbers other than zero and objects of other classes raise nothing, whatever
+/// is covered.
 fn not_throwable() -> Program {
     let code = vec![
         new_instance(0, 2),

@@ -4,7 +4,8 @@ use super::{Case, MOST_LENT};
 use crate::assembly::*;
 use crate::generate::shapes::{program as random_program, LARGEST};
 use crate::generate_claims::{calling_program, most_calls, storing_program};
-use crate::program::{Handler, Instruction, Method, Program, STATIC};
+use crate::program::{Handler, Instruction, Method, Program};
+use crate::program::{CAST, NULL, STATIC, THROWABLE};
 use crate::random::Random;
 
 const REGISTERS: u8 = 16;
@@ -25,8 +26,9 @@ pub fn cases() -> Vec<Case> {
     cases.extend([calling_program(), most_calls()].iter().map(Case::of));
     cases.extend(most_steps().iter().map(Case::of));
     cases.extend((0..4).map(|_| Case::of(&random_program(&mut random, &LARGEST))));
-    let less = cases.last().cloned().map(|case| case.lending(65_536));
-    cases.extend(less);
+    let last = cases[cases.len() - 1].clone();
+    let half = last.lent / 2;
+    cases.push(last.lending(half));
     cases
 }
 
@@ -35,9 +37,11 @@ pub fn most_steps() -> Vec<Program> {
     vec![chain_program(), list_program(), throwing_program()]
 }
 
-/// The class above each class from 1 on.
-fn superclasses(above: fn(u8) -> u8) -> Vec<u8> {
-    (1..CLASSES).map(above).collect()
+/// A program of 60 classes, each but 2 to 4 right below the one given.
+fn sixty(above: fn(u8) -> u8, fields: &[u8], methods: Vec<Method>) -> Program {
+    let above = |class: u8| if (NULL..=CAST).contains(&class) { THROWABLE } else { above(class) };
+    let superclasses: Vec<u8> = (1..CLASSES).map(above).collect();
+    whole_program(&superclasses, fields, 0, methods)
 }
 
 /// Every jump goes one address back, and every call hands all registers on by
@@ -53,7 +57,7 @@ pub fn chain_program() -> Program {
         let arguments = if number == 0 { 0 } else { REGISTERS - 1 };
         Method::new(0, number, STATIC, REGISTERS, arguments).with_code(code)
     };
-    program(&superclasses(|_| 0), &[], 0, (0..METHODS).map(method).collect())
+    sixty(|_| 0, &[], (0..METHODS).map(method).collect())
 }
 
 /// An object of each class holds one of the next class. A loop through eleven
@@ -69,7 +73,7 @@ pub fn list_program() -> Program {
     let mut methods = vec![main_method(1, main)];
     methods.extend((0..4).map(|part| static_method(1 + part, 2, 0, links(15 * part))));
     methods.extend((5..METHODS).map(|number| static_method(number, REGISTERS, 1, carrier(number))));
-    program(&superclasses(|_| 0), &[0; 16], 0, methods)
+    sixty(|_| 0, &[0; 16], methods)
 }
 
 /// Objects of fifteen classes from this one on, each put into field 0 of the
@@ -129,6 +133,5 @@ pub fn throwing_program() -> Program {
         };
         method.with_code(code).with_handlers(handlers)
     };
-    let above = |class: u8| if class <= 4 { class / 2 } else { class - 4 };
-    program(&superclasses(above), &[], 0, (0..METHODS).map(method).collect())
+    sixty(|class| class.saturating_sub(4), &[], (0..METHODS).map(method).collect())
 }

@@ -1,6 +1,7 @@
 //! What the rules ask for: bits in masks.
 
 mod calls;
+mod exceptions;
 mod flow;
 
 use super::classes::classes_having;

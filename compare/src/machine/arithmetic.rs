@@ -1,6 +1,6 @@
 //! Operations on numbers and comparisons of values.
 
-use super::value::{Fault, Value};
+use super::value::{Exception, Fault, Trouble, Value};
 
 #[derive(Clone, Copy, Debug, PartialEq, Eq)]
 pub enum Binary {
@@ -44,13 +44,13 @@ impl Binary {
     /// zero. Numbers wrap; division rounds toward zero; a shift uses the low
     /// five bits of its count.
     #[inline(always)]
-    pub fn apply(self, left: Value, right: Value) -> Result<Value, Fault> {
+    pub fn apply(self, left: Value, right: Value) -> Result<Value, Trouble> {
         let (x, y) = (left.number()?, right.number()?);
         let number = match self {
             Binary::Add => x.wrapping_add(y),
             Binary::Sub => x.wrapping_sub(y),
             Binary::Mul => x.wrapping_mul(y),
-            Binary::Div | Binary::Rem if y == 0 => return Err(Fault::DivisionByZero),
+            Binary::Div | Binary::Rem if y == 0 => return Err(Exception::Arithmetic.into()),
             Binary::Div => x.wrapping_div(y),
             Binary::Rem => x.wrapping_rem(y),
             Binary::And => x & y,
@@ -105,7 +105,7 @@ mod tests {
     use Binary::*;
 
     fn number(operation: Binary, x: i32, y: i32) -> i32 {
-        operation.apply(Value::Number(x), Value::Number(y)).and_then(Value::number).unwrap()
+        operation.apply(Value::Number(x), Value::Number(y)).unwrap().number().unwrap()
     }
 
     #[test]
@@ -124,11 +124,13 @@ mod tests {
     #[test]
     fn kinds_are_tested_before_zero() {
         let (zero, object) = (Value::ZERO, Value::Object(3));
+        let fault = Err(Trouble::Fault(Fault::ObjectAsNumber));
         for operation in [Div, Rem] {
-            assert_eq!(operation.apply(zero, zero), Err(Fault::DivisionByZero));
-            assert_eq!(operation.apply(object, zero), Err(Fault::ObjectAsNumber));
+            assert_eq!(operation.apply(zero, zero), Err(Trouble::Raises(Exception::Arithmetic)));
+            assert_eq!(operation.apply(object, zero), fault);
+            assert_eq!(operation.apply(zero, object), fault);
         }
-        assert_eq!(Add.apply(zero, object), Err(Fault::ObjectAsNumber));
+        assert_eq!(Add.apply(zero, object), fault);
         assert_eq!(Unary::Not.apply(object), Err(Fault::ObjectAsNumber));
     }
 

@@ -2,19 +2,19 @@
 
 use super::arithmetic::Binary;
 use super::code::{Code, Op};
-use super::state::{Cells, Frame, Heap, Object};
-use super::value::{Fault, Value};
+use super::state::{Frame, Heap};
+use super::value::{Exception, Fault, Trouble, Value};
+use crate::program::THROWABLE;
 
-/// Class 1 is Throwable.
-const THROWABLE: u8 = 1;
-
-/// Why control does not stay in the frame. A call without fault and a throw
-/// are not made yet; of `Fault` and `ObjectsFull` nothing has been changed.
+/// Why control does not stay in the frame. A call without fault, a throw and an
+/// exception are not made yet; of `Fault` and `ObjectsFull` nothing has been
+/// changed.
 #[derive(Clone, Copy, Debug)]
 pub enum Leave {
     Call { callee: u8, first: u8 },
     Return(Value),
     Throw(u32),
+    Raise(Exception),
     Fault(Fault),
     ObjectsFull,
     StepsMade,
@@ -24,6 +24,15 @@ pub enum Leave {
 impl From<Fault> for Leave {
     fn from(fault: Fault) -> Leave {
         Leave::Fault(fault)
+    }
+}
+
+impl From<Trouble> for Leave {
+    fn from(trouble: Trouble) -> Leave {
+        match trouble {
+            Trouble::Raises(exception) => Leave::Raise(exception),
+            Trouble::Fault(fault) => Leave::Fault(fault),
+        }
     }
 }
 
@@ -56,7 +65,7 @@ pub fn execute(context: &mut Context, op: Op, address: u8) -> Result<u8, Leave> 
         Op::Shr { to, left, right } => r[to] = Binary::Shr.apply(r[left], r[right])?,
         Op::Ushr { to, left, right } => r[to] = Binary::Ushr.apply(r[left], r[right])?,
         Op::Unary { operation, to, from } => r[to] = operation.apply(r[from])?,
-        Op::NewInstance { to, class } => r[to] = make(heap, class)?,
+        Op::NewInstance { to, class } => r[to] = made(heap, class)?,
         Op::Iget { to, object, field } => r[to] = *cell(code, heap, r[object], field)?,
         Op::Iput { from, object, field } => *cell(code, heap, r[object], field)? = r[from],
         Op::Sget { to, place } => r[to] = heap.statics[place],
@@ -87,13 +96,8 @@ pub fn at_or_below(code: &Code, heap: &Heap, object: u32, class: u8) -> bool {
     code.classes[heap.class(object)].upward >> class & 1 == 1
 }
 
-fn make(heap: &mut Heap, class: u8) -> Result<Value, Leave> {
-    let number = heap.objects.len();
-    if number >= heap.max_objects {
-        return Err(Leave::ObjectsFull);
-    }
-    heap.objects.push(Object { class, cells: Cells::ZERO });
-    Ok(Value::Object(number as u32))
+fn made(heap: &mut Heap, class: u8) -> Result<Value, Leave> {
+    heap.make(class).map(Value::Object).ok_or(Leave::ObjectsFull)
 }
 
 /// The cell of a field that the object has.
@@ -103,10 +107,10 @@ fn cell<'h>(
     heap: &'h mut Heap,
     value: Value,
     field: u8,
-) -> Result<&'h mut Value, Fault> {
+) -> Result<&'h mut Value, Trouble> {
     let object = &mut heap.objects[value.object()? as usize];
     if code.classes[usize::from(object.class)].fields >> field & 1 == 0 {
-        return Err(Fault::FieldNotHad);
+        return Err(Fault::FieldNotHad.into());
     }
     Ok(&mut object.cells[field])
 }
@@ -119,26 +123,26 @@ fn instance_of(code: &Code, heap: &Heap, value: Value, class: u8) -> Result<Valu
 }
 
 #[inline(always)]
-fn check_cast(code: &Code, heap: &Heap, value: Value, class: u8) -> Result<(), Fault> {
+fn check_cast(code: &Code, heap: &Heap, value: Value, class: u8) -> Result<(), Trouble> {
     match value.object_or_null()? {
-        Some(object) if !at_or_below(code, heap, object, class) => Err(Fault::FailedCast),
+        Some(object) if !at_or_below(code, heap, object, class) => Err(Exception::Cast.into()),
         _ => Ok(()),
     }
 }
 
 /// The callee of a virtual call on this receiver.
 #[inline(always)]
-fn find(code: &Code, heap: &Heap, receiver: Value, name: u8) -> Result<u8, Fault> {
+fn find(code: &Code, heap: &Heap, receiver: Value, name: u8) -> Result<u8, Trouble> {
     let class = heap.class(receiver.object()?);
-    code.dispatch[usize::from(name)][class].ok_or(Fault::NoMethod)
+    Ok(code.dispatch[usize::from(name)][class].ok_or(Fault::NoMethod)?)
 }
 
 #[inline(always)]
-fn thrown(code: &Code, heap: &Heap, value: Value) -> Result<u32, Fault> {
+fn thrown(code: &Code, heap: &Heap, value: Value) -> Result<u32, Trouble> {
     let object = value.object()?;
     if at_or_below(code, heap, object, THROWABLE) {
         Ok(object)
     } else {
-        Err(Fault::NotThrowable)
+        Err(Fault::NotThrowable.into())
     }
 }

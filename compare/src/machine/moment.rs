@@ -10,26 +10,33 @@ pub struct Moment {
     pub address: u8,
     pub pending: Option<u32>,
     frames: usize,
+    objects: usize,
     steps: u64,
 }
 
 impl Moment {
     /// None if no frame is open.
     pub fn of(machine: &Machine) -> Option<Moment> {
-        let (frames, steps) = (machine.frames.len(), machine.steps);
-        let moment = |top: &super::state::Frame| Moment {
+        machine.frames.last().map(|top| Moment {
             method: top.method,
             address: top.address,
             pending: machine.pending,
-            frames,
-            steps,
-        };
-        machine.frames.last().map(moment)
+            frames: machine.frames.len(),
+            objects: machine.heap.objects.len(),
+            steps: machine.steps,
+        })
     }
 
     /// Whether the step executed the instruction at the address.
     pub fn executed(&self, after: &Machine) -> bool {
         self.pending.is_none() && after.steps > self.steps
+    }
+
+    /// The class of the object that the instruction raised: one that the step
+    /// made and left pending.
+    pub fn raised(&self, after: &Machine) -> Option<u8> {
+        let object = after.pending.filter(|_| after.heap.objects.len() > self.objects)?;
+        Some(after.heap.class(object) as u8)
     }
 
     /// The call that the step made: caller, address, callee.
@@ -59,13 +66,15 @@ mod tests {
     use super::*;
     use crate::assembly::*;
     use crate::machine::state::Limits;
-    use crate::program::Handler;
+    use crate::program::{Handler, ARITHMETIC};
 
-    /// Method 0 calls 1, which throws; 0 catches it and returns.
+    /// Method 0 calls 1, which throws and, in its handler, divides by zero; 0
+    /// catches that and returns.
     #[test]
     fn each_kind_of_step_is_told() {
         let main = main_method(1, vec![invoke_static(1, 0, 0), return_void()]);
-        let callee = static_method(1, 1, 0, vec![new_instance(0, 1), throw(0)]);
+        let callee = vec![new_instance(0, 1), throw(0), binop(DIV, 1, 1, 1), goto(2)];
+        let callee = static_method(1, 2, 0, callee).with_handlers(vec![Handler::new(1, 2, 2, 1)]);
         let methods = vec![main.with_handlers(vec![Handler::new(0, 1, 1, 1)]), callee];
         let mut machine = Machine::new(&program(&[0], &[], 0, methods), Limits::NONE);
         let mut told = Vec::new();
@@ -74,17 +83,20 @@ mod tests {
             machine.run(n);
             let flags =
                 [before.executed(&machine), before.closed(&machine), before.caught(&machine)];
-            told.push((flags, before.call(&machine), before.left(&machine)));
+            let (call, left) = (before.call(&machine), before.left(&machine));
+            told.push((flags, call, before.raised(&machine), left));
         }
         let [executes, closes, drops, catches] =
             [[1, 0, 0], [1, 1, 0], [0, 1, 0], [0, 0, 1]].map(|flags| flags.map(|flag| flag == 1));
         let expected = [
-            (executes, Some([0, 0, 1]), None),
-            (executes, None, None),
-            (executes, None, None),
-            (drops, None, Some(0)),
-            (catches, None, None),
-            (closes, None, None),
+            (executes, Some([0, 0, 1]), None, None),
+            (executes, None, None, None),
+            (executes, None, None, None),
+            (catches, None, None, None),
+            (executes, None, Some(ARITHMETIC), None),
+            (drops, None, None, Some(1)),
+            (catches, None, None, None),
+            (closes, None, None, None),
         ];
         assert_eq!(told, expected);
     }

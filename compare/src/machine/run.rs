@@ -14,7 +14,7 @@ pub struct Machine {
     pub frames: Vec<Frame>,
     pub max_frames: usize,
     pub heap: Heap,
-    /// A thrown object that no handler has taken yet.
+    /// An object thrown or raised that no handler has taken yet.
     pub pending: Option<u32>,
     pub end: Option<End>,
     /// Steps made so far.
@@ -108,6 +108,10 @@ impl Machine {
             Leave::Call { callee, first } => self.call(callee, first),
             Leave::Return(value) => self.give_back(value),
             Leave::Throw(object) => self.pending = Some(object),
+            Leave::Raise(exception) => match self.heap.make(exception as u8) {
+                None => return Some(Stop::ObjectsFull),
+                object => self.pending = object,
+            },
             Leave::Fault(fault) => self.end = Some(End::Fault(fault)),
         }
         self.steps += 1;

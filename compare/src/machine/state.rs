@@ -68,6 +68,17 @@ pub struct Heap {
 }
 
 impl Heap {
+    /// Makes an object with zero in every cell: its number, or none if the
+    /// store is full.
+    #[inline]
+    pub fn make(&mut self, class: u8) -> Option<u32> {
+        let number = self.objects.len();
+        (number < self.max_objects).then(|| {
+            self.objects.push(Object { class, cells: Cells::ZERO });
+            number as u32
+        })
+    }
+
     #[inline(always)]
     pub fn class(&self, object: u32) -> usize {
         usize::from(self.objects[object as usize].class)

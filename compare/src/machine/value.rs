@@ -1,4 +1,6 @@
-//! Values, and what is wrong with a value where another kind is needed.
+//! Values, and what comes of a value where another one is needed.
+
+use crate::program::{ARITHMETIC, CAST, NULL};
 
 /// A signed number or an object, by its place in the order of making. Null is
 /// number 0.
@@ -12,14 +14,39 @@ pub enum Value {
 #[derive(Clone, Copy, Debug, PartialEq, Eq)]
 #[repr(u8)]
 pub enum Fault {
-    NullAsObject = 1,
     NumberAsObject = 2,
     ObjectAsNumber = 3,
-    DivisionByZero = 4,
     FieldNotHad = 5,
     NoMethod = 6,
     NotThrowable = 7,
-    FailedCast = 8,
+}
+
+/// The exceptions that instructions raise, each with its class.
+#[derive(Clone, Copy, Debug, PartialEq, Eq)]
+#[repr(u8)]
+pub enum Exception {
+    Null = NULL,
+    Arithmetic = ARITHMETIC,
+    Cast = CAST,
+}
+
+/// Why an instruction has no effect of its own.
+#[derive(Clone, Copy, Debug, PartialEq, Eq)]
+pub enum Trouble {
+    Raises(Exception),
+    Fault(Fault),
+}
+
+impl From<Fault> for Trouble {
+    fn from(fault: Fault) -> Trouble {
+        Trouble::Fault(fault)
+    }
+}
+
+impl From<Exception> for Trouble {
+    fn from(exception: Exception) -> Trouble {
+        Trouble::Raises(exception)
+    }
 }
 
 impl Value {
@@ -34,13 +61,13 @@ impl Value {
         }
     }
 
-    /// The object, or fault 1 or 2.
+    /// The object; null raises, another number is fault 2.
     #[inline(always)]
-    pub fn object(self) -> Result<u32, Fault> {
+    pub fn object(self) -> Result<u32, Trouble> {
         match self {
             Value::Object(object) => Ok(object),
-            Value::Number(0) => Err(Fault::NullAsObject),
-            Value::Number(_) => Err(Fault::NumberAsObject),
+            Value::Number(0) => Err(Exception::Null.into()),
+            Value::Number(_) => Err(Fault::NumberAsObject.into()),
         }
     }
 
@@ -64,8 +91,8 @@ mod tests {
         assert_eq!(Value::Number(-1).number(), Ok(-1));
         assert_eq!(Value::Object(0).number(), Err(Fault::ObjectAsNumber));
         assert_eq!(Value::Object(7).object(), Ok(7));
-        assert_eq!(Value::ZERO.object(), Err(Fault::NullAsObject));
-        assert_eq!(Value::Number(1).object(), Err(Fault::NumberAsObject));
+        assert_eq!(Value::ZERO.object(), Err(Trouble::Raises(Exception::Null)));
+        assert_eq!(Value::Number(1).object(), Err(Trouble::Fault(Fault::NumberAsObject)));
         assert_eq!(Value::ZERO.object_or_null(), Ok(None));
         assert_eq!(Value::Number(1).object_or_null(), Err(Fault::NumberAsObject));
         assert_ne!(Value::ZERO, Value::Object(0));

@@ -31,8 +31,10 @@ struct Seen {
     grown: Slots,
     /// Handlers that take a class here.
     taking: u8,
-    /// Classes whose fields were looked at, or that were raised here.
-    classes: u64,
+    /// Classes whose fields were looked at.
+    fields: u64,
+    /// Classes that were raised here.
+    raised: u64,
 }
 
 impl<'p> Solver<'p> {

@@ -43,7 +43,8 @@ fn rule_7_returned_goes_into_the_result_at_next() {
 }
 
 /// Class 3 lies below 2; both have the name, and so has Throwable, class 1,
-/// by class 0 above it. Method 0 calls with register 0 and 1.
+/// by class 0 above it. Method 0 calls with register 0, which may be null, and
+/// 1.
 fn with_receivers() -> Given {
     let body = vec![return_void()];
     let methods = vec![
@@ -55,7 +56,7 @@ fn with_receivers() -> Given {
     let program = program(&[0, 0, 2], &[], 0, methods);
     let row: &[u64] = &[ZN | C1 | C2 | C3, ZN, Z];
     let callees: [&[&[u64]]; 3] = [&[&[C2, ZN, Z]], &[&[C3, ZN, Z]], &[&[C1, ZN, Z]]];
-    given(&program, &[&[&[Z; 3], row, row], callees[0], callees[1], callees[2]])
+    given(&program, &[&[&[Z; 3], row, row], callees[0], callees[1], callees[2]]).leaving(NULL)
 }
 
 #[test]

@@ -1,21 +1,18 @@
 //! Rules 9 and 10.
 
 use super::*;
-use compare::program::Handler;
 
 /// Address 2 throws; handlers go to 3. Class 4 lies below Throwable, class 2
 /// does not.
 fn throwing(handlers: Vec<Handler>) -> Program {
-    let code = vec![nop(), nop(), throw(0), return_void()];
-    let mut program = alone(2, code);
-    program.methods[0].handlers = handlers;
-    program
+    let code = vec![nop(), return_void(), throw(0), return_void()];
+    alone_with(2, code, handlers)
 }
 
-/// A throw of numbers and of classes 1, 2 and 4.
+/// A throw of numbers other than zero and of classes 1, 2 and 4.
 fn given_throw(handlers: Vec<Handler>) -> Given {
-    let thrown: &[u64] = &[ZN | C1 | C2 | C4, Z | C3, Z];
-    let target: &[u64] = &[ZN | C1 | C2 | C4, Z | C3, C1 | C4];
+    let thrown: &[u64] = &[N | C1 | C2 | C4, Z | C3, Z];
+    let target: &[u64] = &[N | C1 | C2 | C4, Z | C3, C1 | C4];
     let before: &[u64] = &[Z, Z, Z];
     given(&throwing(handlers), &[&[before, before, thrown, target]])
 }
@@ -24,7 +21,7 @@ fn given_throw(handlers: Vec<Handler>) -> Given {
 fn rule_9_registers_and_class_go_to_the_handler() {
     let given = given_throw(vec![Handler::new(2, 3, 3, 1)]);
     assert_eq!(given.verdict(), ACCEPTED);
-    assert_eq!(given.with_mask(0, 3, 0, ZN | C1 | C4), "violated 09 00 02");
+    assert_eq!(given.with_mask(0, 3, 0, N | C1 | C4), "violated 09 00 02");
     assert_eq!(given.with_mask(0, 3, 1, Z), "violated 09 00 02");
     assert_eq!(given.with_mask(0, 3, 2, C1), "violated 09 00 02");
     assert_eq!(given.with_mask(0, 3, 2, C4), "violated 09 00 02");
@@ -36,7 +33,7 @@ fn rule_9_registers_and_class_go_to_the_handler() {
 fn rule_9_is_asked_only_if_a_class_is_caught() {
     let given = given_throw(vec![Handler::new(2, 3, 3, 1)]);
     let none = |claim: &mut Claim| {
-        claim.row_mut(0, 2)[0] = ZN | C2;
+        claim.row_mut(0, 2)[0] = N | C2;
         claim.row_mut(0, 3).fill(0);
     };
     assert_eq!(given.with(none), ACCEPTED);
@@ -66,7 +63,7 @@ fn the_first_handler_that_fits_takes_a_class() {
     let given = given_throw(handlers);
     let all = ZN | C1 | C2 | C4;
     let kept = |claim: &mut Claim| {
-        for address in [0, 1, 2] {
+        for address in [0, 1] {
             claim.row_mut(0, address)[..2].copy_from_slice(&[all, Z | C3]);
             claim.row_mut(0, address)[2] = Z | C4;
         }

@@ -58,23 +58,25 @@ fn rule_3_goto_and_if_flow_to_their_target() {
 
 #[test]
 fn rules_2_and_3_are_not_asked_after_return_and_throw() {
-    for last in [give(0), return_void(), throw(0)] {
+    for (last, raised) in [(give(0), 0), (return_void(), 0), (throw(0), NULL)] {
         let program = alone(1, vec![last, return_void()]);
-        assert_eq!(given(&program, &[&[&[Z, Z], &[0, 0]]]).verdict(), ACCEPTED);
+        let given = given(&program, &[&[&[Z, Z], &[0, 0]]]).leaving(raised);
+        assert_eq!(given.verdict(), ACCEPTED);
     }
 }
 
 /// The verdict of one instruction from these masks of two registers and the
-/// result, when register 0 is this after it.
+/// result, when register 0 is this after it and what it raises may leave.
 fn after(instruction: Instruction, before: [u64; 3], written: u64) -> String {
     let program = alone(2, vec![nop(), instruction, return_void()]);
     let last = [written, before[1], before[2]];
-    let mut given = given(&program, &[&[&[Z; 3], &before, &last]]);
+    let mut given =
+        given(&program, &[&[&[Z; 3], &before, &last]]).leaving(NULL | ARITHMETIC | CAST);
     given.claim.row_mut(0, 1).iter_mut().for_each(|mask| *mask |= Z);
     given.claim.row_mut(0, 2)[1] |= Z;
     given.claim.row_mut(0, 2)[2] |= Z;
-    given.claim.fields[0][2] = Z | C1;
-    given.claim.fields[0][3] = Z | C4;
+    given.claim.fields[0][5] = Z | C1;
+    given.claim.fields[0][6] = Z | C4;
     given.claim.statics[1] = Z | C3;
     given.verdict()
 }

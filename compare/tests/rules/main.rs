@@ -3,24 +3,31 @@
 mod calls;
 mod exceptions;
 mod flow;
+mod raised;
 mod storage;
 mod tempting;
 
 use compare::assembly::*;
 use compare::checker::{check, LEAST_MEMORY};
 use compare::claim::{Claim, OTHER, ZERO};
-use compare::program::{Instruction, Program};
+use compare::program::{Handler, Instruction, Program};
 use compare::report::report;
 
-/// Bits 62 and 63, both, and those of a few classes.
+/// Bits 62 and 63, both, and those of a few classes by their numbers in
+/// `program`: of class 2 there and so on.
 const Z: u64 = ZERO;
 const N: u64 = OTHER;
 const ZN: u64 = ZERO | OTHER;
 const C0: u64 = 1;
 const C1: u64 = 2;
-const C2: u64 = 4;
-const C3: u64 = 8;
-const C4: u64 = 16;
+const C2: u64 = 1 << 5;
+const C3: u64 = 1 << 6;
+const C4: u64 = 1 << 7;
+
+/// The bits of the classes that instructions raise.
+const NULL: u64 = 1 << 2;
+const ARITHMETIC: u64 = 1 << 3;
+const CAST: u64 = 1 << 4;
 
 /// A program and a claim.
 #[derive(Clone)]
@@ -49,6 +56,12 @@ fn given(program: &Program, rows: &[&[&[u64]]]) -> Given {
 }
 
 impl Given {
+    /// The same with exceptions of these classes leaving method 0.
+    fn leaving(mut self, classes: u64) -> Given {
+        self.claim.leaving[0] |= classes;
+        self
+    }
+
     /// What the tool prints, without the last line end.
     fn verdict(&self) -> String {
         let mut memory = vec![0xee; LEAST_MEMORY + 1];
@@ -76,7 +89,12 @@ impl Given {
 /// Method 0 alone, of a program with classes 2 below 0, 3 below 2 and 4 below
 /// Throwable; field 0 is of class 2; two statics.
 fn alone(registers: u8, code: Vec<Instruction>) -> Program {
-    program(&[0, 0, 2, 1], &[2], 2, vec![main_method(registers, code)])
+    alone_with(registers, code, vec![])
+}
+
+fn alone_with(registers: u8, code: Vec<Instruction>, handlers: Vec<Handler>) -> Program {
+    let method = main_method(registers, code).with_handlers(handlers);
+    program(&[0, 0, 2, 1], &[2], 2, vec![method])
 }
 
 const ACCEPTED: &str = "accepted";

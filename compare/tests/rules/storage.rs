@@ -6,7 +6,7 @@ use super::*;
 fn rule_0_comes_first() {
     let given = given(&alone(1, vec![nop(), return_void()]), &[&[&[Z, Z], &[Z, Z]]]);
     assert_eq!(given.verdict(), ACCEPTED);
-    for class in [2, 3] {
+    for class in [5, 6] {
         assert_eq!(given.with(|claim| claim.fields[0][class] = N | C2), "violated 00 00 00");
     }
     for number in [0, 1] {
@@ -25,24 +25,24 @@ fn rule_0_comes_first() {
 fn rule_5_into_the_field_of_each_class_that_has_it() {
     let program = alone(2, vec![nop(), iput(0, 1, 0), return_void()]);
     let row: &[u64] = &[Z | C1, ZN | C0 | C3 | C4, Z];
-    let mut given = given(&program, &[&[&[Z; 3], row, row]]);
+    let mut given = given(&program, &[&[&[Z; 3], row, row]]).leaving(NULL);
     assert_eq!(given.verdict(), "violated 05 00 01");
-    given.claim.fields[0][2] = Z | C1;
+    given.claim.fields[0][5] = Z | C1;
     assert_eq!(given.verdict(), "violated 05 00 01");
     given.claim.fields[0] = [0; 64];
-    given.claim.fields[0][2] = Z;
-    given.claim.fields[0][3] = Z | C1;
+    given.claim.fields[0][5] = Z;
+    given.claim.fields[0][6] = Z | C1;
     assert_eq!(given.verdict(), ACCEPTED);
     let both = |claim: &mut Claim| {
         claim.row_mut(0, 1)[1] |= C2;
         claim.row_mut(0, 2)[1] |= C2;
     };
     assert_eq!(given.with(both), "violated 05 00 01");
-    given.claim.fields[0][2] = Z | C1;
+    given.claim.fields[0][5] = Z | C1;
     assert_eq!(given.with(both), ACCEPTED);
     // What is not stored is not asked for.
     let none = |claim: &mut Claim| {
-        claim.fields[0][3] = Z;
+        claim.fields[0][6] = Z;
         claim.row_mut(0, 1)[1] = ZN | C0 | C4;
     };
     assert_eq!(given.with(none), ACCEPTED);

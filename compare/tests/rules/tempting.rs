@@ -1,7 +1,7 @@
 //! What document 01 calls tempting but false.
 
 use super::*;
-use compare::program::{Handler, Method, STATIC};
+use compare::program::{Method, STATIC};
 
 #[test]
 fn a_calls_handler_does_not_get_the_callees_registers() {

@@ -5,7 +5,7 @@ use mathlib.Core.List.{List, [], _∷_, map}
 use Prim.Native.Nat.{ℕ}
 use Rattle.program.specs.Program.{noProgram}
 use Rattle.reader.specs.Read.{Reading, refused, taken, readingNumber, readingValues}
-use Rattle.machine.specs.declared.Fault.the-variants.{NullAsObject, FailedCast}
+use Rattle.machine.specs.declared.Fault.the-variants.{NumberAsObject, NotThrowable}
 use Rattle.turn.specs.declared.Halt.the-variants.{Done, Uncaught, Faulted, StepsMade}
 use Rattle.bounded.specs.declared.Outcome.{Outcome}
 use Rattle.bounded.specs.declared.Outcome.the-variants.{Refused, Short, Ran}
@@ -51,8 +51,8 @@ outcomes =
     Ran Done 3 0 5 Nothing
     ∷ Ran Uncaught 4 0 2 (Object 1)
     ∷ Ran StepsMade 9 6 8 (Object 0)
-    ∷ Ran (Faulted NullAsObject) 1 2 3 Nothing
-    ∷ Ran (Faulted FailedCast) 1 2 3 Nothing
+    ∷ Ran (Faulted NumberAsObject) 1 2 3 Nothing
+    ∷ Ran (Faulted NotThrowable) 1 2 3 Nothing
     ∷ Refused 5 2
     ∷ Short
     ∷ []
@@ -62,8 +62,8 @@ stepped-right :
     ≡ (32 ∷ 3 ∷ 0 ∷ 0 ∷ 5 ∷ 7 ∷ [])
     ∷ (33 ∷ 4 ∷ 2 ∷ 0 ∷ 2 ∷ 7 ∷ [])
     ∷ (22 ∷ 9 ∷ 1 ∷ 6 ∷ 8 ∷ 7 ∷ [])
-    ∷ (41 ∷ 1 ∷ 0 ∷ 2 ∷ 3 ∷ 7 ∷ [])
-    ∷ (48 ∷ 1 ∷ 0 ∷ 2 ∷ 3 ∷ 7 ∷ [])
+    ∷ (42 ∷ 1 ∷ 0 ∷ 2 ∷ 3 ∷ 7 ∷ [])
+    ∷ (47 ∷ 1 ∷ 0 ∷ 2 ∷ 3 ∷ 7 ∷ [])
     ∷ (5 ∷ 2 ∷ 0 ∷ 0 ∷ 0 ∷ 7 ∷ [])
     ∷ (23 ∷ 0 ∷ 0 ∷ 0 ∷ 0 ∷ 7 ∷ [])
     ∷ []

@@ -24,14 +24,11 @@ pub fn fault_number(f: Fault) -> u8
     ensures value { λ r. ⌜ r ≡ faultNumber f ⌝ }
 {
     match f {
-        Fault::NullAsObject => 1,
         Fault::NumberAsObject => 2,
         Fault::ObjectAsNumber => 3,
-        Fault::DivisionByZero => 4,
         Fault::FieldNotHad => 5,
         Fault::NoMethod => 6,
         Fault::NotThrowable => 7,
-        Fault::FailedCast => 8,
     }
 }
 

@@ -31,7 +31,7 @@ wrapped z = toZ w32 (low z)
 abbrev pub shiftCount : ℤ → ℕ
 shiftCount y = ofZ w32 y % 32
 
--- whether a divisor is zero, where document 01 has "4 division by zero"
+-- whether a number is zero, as null is and a divisor may be
 abbrev pub isZero : ℤ → Bool
 isZero (pos zero) = true
 isZero (pos (suc n)) = false
@@ -62,6 +62,20 @@ computed Xor x y = Number (toZ w32 (bitXor (ofZ w32 x) (ofZ w32 y)))
 computed Shl x y = Number (toZ w32 (ofZ w32 x * 2 ^ shiftCount y % 2 ^ 32))
 computed Shr x y = Number (shrZ x (2 ^ shiftCount y))
 computed Ushr x y = Number (toZ w32 (ofZ w32 x / 2 ^ shiftCount y))
+
+-- the operations that divide: their second operand is a divisor
+abbrev pub divides : Operation → Bool
+divides Add = false
+divides Sub = false
+divides Mul = false
+divides Div = true
+divides Rem = true
+divides And = false
+divides Or = false
+divides Xor = false
+divides Shl = false
+divides Shr = false
+divides Ushr = false
 
 -- "neg" and "not" of document 01
 unfoldable pub unaryValue : Unary → ℤ → ℤ

@@ -1,6 +1,6 @@
 // The arithmetic of signed 32-bit numbers: binary and unary operations, and conditions on two numbers.
 ghost use mathlib.Core.Path.{_≡_};
-ghost use Rattle.arithmetic.specs.Arithmetic.{low, wrapped, computed, unaryValue, inOrder};
+ghost use Rattle.arithmetic.specs.Arithmetic.{low, wrapped, computed, unaryValue, inOrder, divides};
 use instruction::Condition;
 use instruction::Operation;
 use instruction::Unary;
@@ -47,6 +47,25 @@ pub fn binary(o: Operation, x: i32, y: i32) -> Computed
             Computed::Number(shifted)
         }
         Operation::Ushr => Computed::Number(number(bits(x) >> n)),
+    }
+}
+
+// Whether an operation divides.
+pub fn divides(o: Operation) -> bool
+    ensures value { λ r. ⌜ r ≡ divides o ⌝ }
+{
+    match o {
+        Operation::Add => false,
+        Operation::Sub => false,
+        Operation::Mul => false,
+        Operation::Div => true,
+        Operation::Rem => true,
+        Operation::And => false,
+        Operation::Or => false,
+        Operation::Xor => false,
+        Operation::Shl => false,
+        Operation::Shr => false,
+        Operation::Ushr => false,
     }
 }
 

@@ -50,7 +50,8 @@ limitHalt Done = halt.Done
 limitHalt (Uncaught o) = halt.Uncaught
 limitHalt (Failed e) = halt.Faulted e
 
--- "24: an address outside its method. 20: new-instance at 256 objects. 21: a call without fault at 32 frames"
+-- "24: an address outside its method. 20: new-instance at 256 objects. 21: a call without fault at 32 frames", and where an object
+-- is raised "a full store gives 20"
 abbrev pub haltBy : Stop → Status → Halt
 haltBy No e = limitHalt e
 haltBy Store e = halt.FullStore

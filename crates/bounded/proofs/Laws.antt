@@ -7,8 +7,10 @@ use mathlib.Core.Option.{none, some, Option·some-ne-none}
 use Prim.Native.Nat.{ℕ, _-_, min, _≤_, _<_}
 use native.Mathlib.Nat.{min-eq-right}
 use native.Mathlib.Omega.{arith}
+use lib.Dec.{ltb}
 use lib.ListN.{length}
-use borrow.Author.Tests.{le-leb}
+use borrow.Author.Tests.{ltb-true, ltb-false, le-leb}
+use Rattle.text.proofs.Cases.{by-test}
 use Rattle.program.specs.Program.{Program, codeLength}
 use Rattle.reader.specs.Read.{refused, taken, readProgram}
 use Rattle.machine.specs.declared.Fault.{Fault}
@@ -21,7 +23,7 @@ use Rattle.turn.specs.declared.Halt.the-variants.{Done, Uncaught, Faulted, Full
 use Rattle.turn.specs.Stop.{stopOf}
 use Rattle.bounded.specs.Bounded.{Stopped, atLimit, bounded}
 use Rattle.bounded.specs.Step.{Stepping, turnedDown, short, ran, enough, stepping, framesAfter, objectsAfter, staticsAfter}
-use Rattle.bounded.proofs.Stops.{Making, Beyond, Says, Framed, ended-stops}
+use Rattle.bounded.proofs.Stops.{Making, Beyond, Says, Framed, full-stops, ended-stops}
 use Rattle.bounded.proofs.Left.{Left, bounded-left, left-says, left-kept, left-ended, more-left, only}
 
 -- what goes on and is beyond every address has a top frame that is outside
@@ -81,11 +83,28 @@ module _ (p : Program) (n : ℕ) where
   pub steps-made : bounded p n .halt ≡ StepsMade → (bounded p n .count ≡ min n 1000000) × ¬ Ended (bounded p n .state .status)
   steps-made h = rw h at says
 
-  -- "20: new-instance at 256 objects", never "from a store .. with space"
+  -- "20: new-instance at 256 objects", and a step that raises a new object: "a full store gives 20". Never "from a store .. with
+  -- space"
   pub full-store : bounded p n .halt ≡ FullStore → Making p (bounded p n .state) × (length (bounded p n .state .objects) ≡ 256)
   full-store h =
       let full : Making p (bounded p n .state) × (256 ≤ length (bounded p n .state .objects)) = rw h at says in
       (full .0, omega (arith, objects-most))
+
+  -- and there always: no such step was made at 256 objects, and where one is next it is 20
+  pub store-space : (k : ℕ) → k < bounded p n .count → Making p (run p k) → length (run p k .objects) < 256
+  store-space k l m =
+      by-test (ltb (length (run p k .objects)) 256) (ltb-true (length (run p k .objects)) 256)
+      (λ q.
+      absurd
+      (Option·some-ne-none FullStore
+      (sym (full-stops p (run p k) m (ltb-false (length (run p k .objects)) 256 q)) ∙ not-stopped k l)))
+
+  pub store-full : bounded p n .count < min n 1000000 → Making p (bounded p n .state) → length (bounded p n .state .objects) ≡ 256
+      → bounded p n .halt ≡ FullStore
+  store-full l m full =
+      let stops : stopOf p (bounded p n .state) ≡ some FullStore = full-stops p (bounded p n .state) m (omega (arith, full)) in
+      let told : some (bounded p n .halt) ≡ some FullStore = sym (before-limit l) ∙ stops in
+      cc
 
   -- "21: a call without fault at 32 frames"
   pub full-stack : bounded p n .halt ≡ FullStack → Calling p (bounded p n .state) × (length (bounded p n .state .frames) ≡ 32)

@@ -1,4 +1,6 @@
 -- Laws that tell the stepper's answers apart, and examples.
+pub mod Rows
+pub mod Raised
 pub mod Stops
 pub mod Left
 pub mod Lending

@@ -7,7 +7,7 @@ use lib.ListN.{length}
 use Rattle.text.proofs.Cases.{never}
 use Rattle.instruction.specs.Word.{pick}
 use Rattle.machine.specs.declared.Fault.{Fault}
-use Rattle.machine.specs.declared.Fault.the-variants.{NullAsObject, NumberAsObject, ObjectAsNumber, DivisionByZero, FieldNotHad, NoMethod, NotThrowable, FailedCast}
+use Rattle.machine.specs.declared.Fault.the-variants.{NumberAsObject, ObjectAsNumber, FieldNotHad, NoMethod, NotThrowable}
 use Rattle.machine.specs.State.{Status, running, raised, done, uncaught, failed}
 use Rattle.turn.specs.declared.Halt.{Halt}
 use Rattle.turn.specs.declared.Halt.the-variants.{Done, Uncaught, Faulted, FullStore, FullStack, StepsMade, Outside}
@@ -36,11 +36,9 @@ outcomeFor (ran x) =
 -- ---- a halt from its number
 faultFrom : ℕ → Fault
 faultFrom n =
-    pick (eqb n 41) NullAsObject
-    (pick (eqb n 42) NumberAsObject
+    pick (eqb n 42) NumberAsObject
     (pick (eqb n 43) ObjectAsNumber
-    (pick (eqb n 44) DivisionByZero
-    (pick (eqb n 45) FieldNotHad (pick (eqb n 46) NoMethod (pick (eqb n 47) NotThrowable FailedCast))))))
+    (pick (eqb n 45) FieldNotHad (pick (eqb n 46) NoMethod NotThrowable)))
 
 haltFrom : ℕ → Halt
 haltFrom n =
@@ -53,14 +51,11 @@ halt-back : (h : Halt) → haltFrom (haltNumber h) ≡ h
 unfolding haltFrom faultFrom
 halt-back Done = refl
 halt-back Uncaught = refl
-halt-back (Faulted NullAsObject) = refl
 halt-back (Faulted NumberAsObject) = refl
 halt-back (Faulted ObjectAsNumber) = refl
-halt-back (Faulted DivisionByZero) = refl
 halt-back (Faulted FieldNotHad) = refl
 halt-back (Faulted NoMethod) = refl
 halt-back (Faulted NotThrowable) = refl
-halt-back (Faulted FailedCast) = refl
 halt-back FullStore = refl
 halt-back FullStack = refl
 halt-back StepsMade = refl

@@ -1,20 +1,21 @@
 -- What each of the stepper's answers says of the state that it stops at, and what a step that nothing stops keeps: at most 32
 -- frames and 256 objects, and which statuses have a frame. Assumes nothing.
-use mathlib.Core.Path.{_≡_, refl, ap}
+use mathlib.Core.Path.{_≡_, refl, ap, _∙_}
 use mathlib.Core.Bool.{Bool, true, false}
 use mathlib.Core.List.{List, [], _∷_}
 use mathlib.Core.Option.{Option, none, some}
-use Prim.Native.Nat.{ℕ, _≤_}
+use Prim.Native.Nat.{ℕ, _≤_, _<_}
 use native.Mathlib.Omega.{arith}
 use lib.Dec.{ltb}
 use lib.ListN.{length, length-append, length-set}
-use borrow.Author.Tests.{ltb-true, ltb-false}
+use borrow.Author.Tests.{ltb-true, ltb-false, le-ltb}
 use Rattle.instruction.specs.Word.{pick}
 use Rattle.program.specs.Program.{Program, codeLength}
 use Rattle.search.specs.declared.Handling.{Handling}
 use Rattle.search.specs.declared.Handling.the-variants as handling
 use Rattle.machine.specs.declared.Effect.{Effect}
-use Rattle.machine.specs.declared.Effect.the-variants.{Next, Jump, Write, Load, LoadStatic, Make, Store, StoreStatic, Call, Exit, Raise, Fail}
+use Rattle.machine.specs.declared.Effect.the-variants.{Next, Jump, Write, Load, LoadStatic, Make, Store, StoreStatic, Call, Exit, Raise}
+use Rattle.machine.specs.declared.Effect.the-variants.{RaiseNew, Fail}
 use Rattle.machine.specs.State.{Frame, Status, running, raised, done, uncaught, failed, State, objectAt}
 use Rattle.machine.specs.Run.{fresh, stored, apply, unwound, stepBy, step}
 use Rattle.instruction.proofs.Flags.{pick-cases}
@@ -23,16 +24,20 @@ use Rattle.machine.proofs.History.{Calling}
 use Rattle.turn.specs.declared.Halt.{Halt}
 use Rattle.turn.specs.declared.Halt.the-variants.{Done, Uncaught, Faulted, FullStore, FullStack, StepsMade, Outside}
 use Rattle.turn.specs.Stop.{room, stopBy, stopOf}
+use Rattle.turn.proofs.Stops.{running-stop}
 use Rattle.bounded.specs.Bounded.{atLimit}
+
+-- an effect that makes an object: new-instance's, or that of an instruction that raises one
+pub data Makes (e : Effect) : Type 0 where
+  by-new : (to class : ℕ) → e ≡ Make to class → Makes e
+  by-raise : (class : ℕ) → e ≡ RaiseNew class → Makes e
 
 -- a state whose next step makes an object: its top frame, inside its method, and the frames below
 pub record Making (p : Program) (s : State) : Type 0 where
   pub frame : Frame
   pub rest : List Frame
-  pub to : ℕ
-  pub class : ℕ
   pub at : At p s running frame rest
-  pub effect : effectAt p s frame ≡ Make to class
+  pub effect : Makes (effectAt p s frame)
 
 -- no frame is open, or the top one is at an address outside its method
 abbrev pub Beyond : Program → List Frame → Type 0
@@ -44,7 +49,7 @@ abbrev pub Says : Program → ℕ → ℕ → State → Halt → Type 0
 Says p n k s Done = s .status ≡ done
 Says p n k s Uncaught = (o : ℕ) × (s .status ≡ uncaught o)
 Says p n k s (Faulted e) = s .status ≡ failed e
--- "20: new-instance at 256 objects"
+-- "20: new-instance at 256 objects", and a step that raises a new object: "a full store gives 20"
 Says p n k s FullStore = Making p s × (256 ≤ length (s .objects))
 -- "21: a call without fault at 32 frames"
 Says p n k s FullStack = Calling p s × (32 ≤ length (s .frames))
@@ -74,6 +79,14 @@ Judged p n k s t none = Kept s → Kept t
 Judged p n k s t (some h) = Says p n k s h
 
 module _ (p : Program) (n k : ℕ) (s : State) where
+  -- u is the state after an effect that makes an object
+  making-judged : (f : Frame) (rest : List Frame) → At p s running f rest → Makes (effectAt p s f) → (u : State)
+      → (length (s .objects) < 256 → Kept s → Kept u) → Judged p n k s u (pick (ltb (length (s .objects)) 256) none (some FullStore))
+  making-judged f rest at makes u kept =
+      pick-cases (Judged p n k s u) (ltb (length (s .objects)) 256) none (some FullStore)
+      (λ l. kept (ltb-true (length (s .objects)) 256 l))
+      (λ l. (record { frame = f; rest = rest; at = at; effect = makes }, ltb-false (length (s .objects)) 256 l))
+
   effect-judged : (f : Frame) (rest : List Frame) → At p s running f rest → (e : Effect) → effectAt p s f ≡ e → Judged p n k s (apply p s f rest e) (room s e)
   effect-judged f rest at Next h = omega (arith, ap length (at .frames))
   effect-judged f rest at (Jump to) h = omega (arith, ap length (at .frames))
@@ -81,10 +94,8 @@ module _ (p : Program) (n k : ℕ) (s : State) where
   effect-judged f rest at (Load a o x) h = omega (arith, ap length (at .frames))
   effect-judged f rest at (LoadStatic a x) h = omega (arith, ap length (at .frames))
   effect-judged f rest at (Make a c) h =
-      pick-cases (Judged p n k s (apply p s f rest (Make a c))) (ltb (length (s .objects)) 256) none (some FullStore)
-      (λ l. omega (arith, ap length (at .frames), length-append (s .objects) (fresh p c ∷ []), ltb-true (length (s .objects)) 256 l))
-      (λ l.
-      (record { frame = f; rest = rest; to = a; class = c; at = at; effect = h }, ltb-false (length (s .objects)) 256 l))
+      making-judged f rest at (by-new a c h) (apply p s f rest (Make a c))
+      (λ l. omega (arith, ap length (at .frames), length-append (s .objects) (fresh p c ∷ []), l))
   effect-judged f rest at (Store o x v) h =
       omega (arith, ap length (at .frames), length-set (s .objects) o (stored (objectAt s o) x v))
   effect-judged f rest at (StoreStatic x v) h = omega (arith, ap length (at .frames))
@@ -96,6 +107,9 @@ module _ (p : Program) (n k : ℕ) (s : State) where
   effect-judged f [] at (Exit v) h = λ kept. (omega arith, kept .1, refl)
   effect-judged f (g ∷ rest) at (Exit v) h = omega (arith, ap length (at .frames))
   effect-judged f rest at (Raise o) h = λ kept. (kept .0, kept .1, rw (at .frames) tt)
+  effect-judged f rest at (RaiseNew c) h =
+      making-judged f rest at (by-raise c h) (apply p s f rest (RaiseNew c))
+      (λ l kept. (kept .0, omega (arith, length-append (s .objects) (fresh p c ∷ []), l), rw (at .frames) tt))
   effect-judged f rest at (Fail e) h = λ kept. (kept .0, kept .1, rw (at .frames) tt)
 
   unwound-judged : (f : Frame) (rest : List Frame) (o : ℕ) → At p s (raised o) f rest → (h : Handling) → Judged p n k s (unwound p s f rest o h) none
@@ -138,6 +152,15 @@ module _ (p : Program) (n k : ℕ) (s : State) where
 
   pub step-kept : stopOf p s ≡ none → Kept s → Kept (step p s)
   step-kept e = rw e at judged
+
+-- and where an object would be made at 256 objects, 20 it is
+full-room : (s : State) (e : Effect) → Makes e → 256 ≤ length (s .objects) → room s e ≡ some FullStore
+full-room s e (by-new to class q) l = rw (q, le-ltb (length (s .objects)) 256 l)
+full-room s e (by-raise class q) l = rw (q, le-ltb (length (s .objects)) 256 l)
+
+pub full-stops : (p : Program) (s : State) → Making p s → 256 ≤ length (s .objects) → stopOf p s ≡ some FullStore
+full-stops p s m l =
+    running-stop p s (m .frame) (m .rest) (m .at) ∙ full-room s (effectAt p s (m .frame)) (m .effect) l
 
 module _ (p : Program) (n : ℕ) (s : State) where
   limit-by : (e : Status) → s .status ≡ e → Says p n n s (atLimit e)

@@ -22,7 +22,7 @@ use Rattle.claim.specs.declared.Answer.{Answer as ClaimAnswer}
 use Rattle.claim.specs.ReadClaim.{Reading as ClaimReading, refused as claimRefused, taken as claimTaken, readClaim, readingNumber as claimNumber, readingValues as claimValues, masksAfter, numberOf as answerNumber, valuesOf as answerValues, lineOf as answerLine}
 use Rattle.claim.proofs.Answers.{line-is as claim-line-is, found-masks}
 use Rattle.rules.specs.declared.Broken.{Broken}
-use Rattle.rules.specs.Broken.{brokenOf}
+use Rattle.rules.specs.Broken.{noRule, brokenOf}
 use Rattle.rules.proofs.Numbers.{verdict-said}
 use Rattle.calls.specs.Bytes.{putCalls}
 use Rattle.calls.proofs.Bytes.{put-front, call-list-short}
@@ -37,15 +37,15 @@ module _ (p : Program) (c : Claim) (before : List ℕ) where
   short-judged few = rw (lt-ltb (length before) 24576 few) (refl, refl)
 
   module _ (many : 24576 ≤ length before) (b : Broken) (v : b ≡ brokenOf (verdict p c)) where
-    pub broken-judged : (b .rule ≡ 11 → ⊥) → Judged (Violated (b .rule) (b .method) (b .address)) before
+    pub broken-judged : (b .rule ≡ noRule → ⊥) → Judged (Violated (b .rule) (b .method) (b .address)) before
     broken-judged d =
-        let e : verdict p c ≡ violated (b .rule) (b .method) (b .address) = verdict-said p c b v ∙ rw (ne-eqb (b .rule) 11 d) in
+        let e : verdict p c ≡ violated (b .rule) (b .method) (b .address) = verdict-said p c b v ∙ rw (ne-eqb (b .rule) noRule d) in
         rw (le-ltb (length before) 24576 many, e) (refl, refl)
 
-    pub kept-judged : b .rule ≡ 11 → Limited p → (count : ℕ) (after : List ℕ) → count ≡ length (callList p c)
+    pub kept-judged : b .rule ≡ noRule → Limited p → (count : ℕ) (after : List ℕ) → count ≡ length (callList p c)
         → after ≡ putCalls (callList p c) 0 before → Judged (Accepted count) after
     kept-judged z limited count after n w =
-        let e : verdict p c ≡ accepted = verdict-said p c b v ∙ rw (eq-eqb (b .rule) 11 z) in
+        let e : verdict p c ≡ accepted = verdict-said p c b v ∙ rw (eq-eqb (b .rule) noRule z) in
         let front = put-front (callList p c) before (omega (arith, call-list-short p c limited)) in
         rw (le-ltb (length before) 24576 many, e) (ap (λ (x : ℕ). Accepted x) n, w ∙ front)
 

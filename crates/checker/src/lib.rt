@@ -25,7 +25,7 @@ fn judge(t: &[u64; 768], w: &[u64; 9712], memory: &mut [u8]) -> Verdict
         return Verdict::Short;
     }
     let broken = rules::first_broken(t, w);
-    if broken.rule != 11 {
+    if broken.rule != rules::NO_RULE {
         return Verdict::Violated {
             rule: broken.rule,
             method: broken.method,

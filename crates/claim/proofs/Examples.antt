@@ -10,10 +10,10 @@ use Rattle.claim.specs.Allowed.{fullClaim}
 slots : List Slot
 slots = registerAt 0 0 0 ∷ resultAt 0 1 ∷ fieldOf 1 0 ∷ staticOf 0 ∷ returnedBy 1 ∷ leaving 1 ∷ []
 
--- the sample has two classes: their bits, 62 and 63; for what leaves a method "class bits only"
-abbrev both : ℕ
-both = 0xc000000000000003
+-- the sample has five classes: their bits, 62 and 63; for what leaves a method "class bits only"
+abbrev all : ℕ
+all = 0xc00000000000001f
 
-sample-bits : map (λ (s : Slot). fullClaim sampleProgram s .bits) slots ≡ both ∷ both ∷ both ∷ both ∷ both ∷ 3 ∷ []
+sample-bits : map (λ (s : Slot). fullClaim sampleProgram s .bits) slots ≡ all ∷ all ∷ all ∷ all ∷ all ∷ 31 ∷ []
 unfolding fullClaim slots
 sample-bits = refl

@@ -4,7 +4,7 @@ use mathlib.Core.Bool.{true}
 use Prim.Native.Nat.{ℕ, suc, _<_}
 use lib.Dec.{ltb}
 use lib.IntN.{ℤ}
-use borrow.Author.Tests.{lt-ltb}
+use borrow.Author.Tests.{lt-ltb, ltb-true}
 use Rattle.instruction.specs.declared.Instruction.{Instruction}
 use Rattle.instruction.specs.declared.Instruction.the-variants.{Nop, Move, Const, Goto, If, IfZero, Binop, Unop}
 use Rattle.instruction.specs.declared.Instruction.the-variants.{NewInstance, Iget, Iput, Sget, Sput, InvokeVirtual, InvokeStatic}
@@ -15,13 +15,13 @@ use Rattle.instruction.proofs.Flags.{or-right, pick-cases}
 use Rattle.mask.specs.Mask.{zeroBit, otherBit, has}
 use Rattle.operands.specs.Names.{named}
 use Rattle.arithmetic.specs.Arithmetic.{isZero}
-use Rattle.program.specs.Program.{Program, classCount, instructionAt}
+use Rattle.program.specs.Program.{Program, nullClass, arithmeticClass, castClass, classCount, instructionAt}
 use Rattle.program.specs.Lists.{Every}
 use Rattle.values.specs.Values.{limitsOf}
 use Rattle.reader.specs.Formed.{Formed}
 use Rattle.flow.specs.Claim.{Slot, registerAt, resultAt, fieldOf, staticOf, returnedBy, leaving, Claim, numberBit}
 use Rattle.flow.specs.Flows.{_⊆_, Holds}
-use Rattle.flow.specs.Rules.{initialMemory, entry, carried, onward, onwardExcept, numbersInto, intoHandler, intoLeaving, rulesOf}
+use Rattle.flow.specs.Rules.{initialMemory, entry, carried, onward, onwardExcept, numbersInto, own, intoHandler, intoLeaving, rulesOf}
 use Rattle.flow.specs.Verdict.{accepted, verdict}
 use Rattle.flow.specs.Calls.{callList}
 use Rattle.flow.specs.Covered.{Covered}
@@ -78,6 +78,13 @@ module _ (p : Program) (c : Claim) (full : (s : Slot) (k : ℕ) → has (c s) k 
       uncaught-holds : (k : ℕ) → k < classCount p → Holds c (intoLeaving p m pc k)
       uncaught-holds k l e = full (leaving m) k ∙ lt-ltb k (classCount p) l
 
+      -- rules 9 and 10 of a class that an instruction raises itself
+      own-caught : (k : ℕ) → Holds c (own p m pc k (intoHandler p m pc))
+      own-caught k t = caught-holds k (ltb-true k (classCount p) t)
+
+      own-uncaught : (k : ℕ) → Holds c (own p m pc k (intoLeaving p m pc))
+      own-uncaught k t = uncaught-holds k (ltb-true k (classCount p) t)
+
       rules-of-hold : (i : Instruction) → TestHolds (named (limitsOf p m) i) → Every (λ r. Holds c (r .flows)) (rulesOf p m pc i)
       rules-of-hold Nop h = (onward-holds (suc pc), tt)
       rules-of-hold (Move a b) h = (except-holds a (suc pc), (into _ (registerAt m (suc pc) a) (λ _. refl), tt))
@@ -85,11 +92,24 @@ module _ (p : Program) (c : Claim) (full : (s : Slot) (k : ℕ) → has (c s) k 
       rules-of-hold (Goto d) h = (onward-holds d, tt)
       rules-of-hold (If o a b d) h = (onward-holds (suc pc), (onward-holds d, tt))
       rules-of-hold (IfZero o a d) h = (onward-holds (suc pc), (onward-holds d, tt))
-      rules-of-hold (Binop o a b d) h = (except-holds a (suc pc), (λ _ _. numbers-hold a, tt))
+      rules-of-hold (Binop o a b d) h =
+          (except-holds a (suc pc), (λ _ _. numbers-hold a, (λ _ _. own-caught arithmeticClass, (λ _ _. own-uncaught arithmeticClass, tt))))
       rules-of-hold (Unop o a b) h = (except-holds a (suc pc), (λ _. numbers-hold a, tt))
       rules-of-hold (NewInstance a k) h = (except-holds a (suc pc), (bit-after a k (class-bit k (h .1)), tt))
-      rules-of-hold (Iget a b x) h = (except-holds a (suc pc), (λ k _ _ _. into (fieldOf k x) (registerAt m (suc pc) a) (λ _. refl), tt))
-      rules-of-hold (Iput a b x) h = (onward-holds (suc pc), (λ k _ _ _. into (registerAt m pc a) (fieldOf k x) (λ _. refl), tt))
+      rules-of-hold (Iget a b x) h = (
+        except-holds a (suc pc),
+        (
+          λ k _ _ _. into (fieldOf k x) (registerAt m (suc pc) a) (λ _. refl),
+          (λ _. own-caught nullClass, (λ _. own-uncaught nullClass, tt)),
+        ),
+      )
+      rules-of-hold (Iput a b x) h = (
+        onward-holds (suc pc),
+        (
+          λ k _ _ _. into (registerAt m pc a) (fieldOf k x) (λ _. refl),
+          (λ _. own-caught nullClass, (λ _. own-uncaught nullClass, tt)),
+        ),
+      )
       rules-of-hold (Sget a x) h = (except-holds a (suc pc), (into (staticOf x) (registerAt m (suc pc) a) (λ _. refl), tt))
       rules-of-hold (Sput a x) h = (onward-holds (suc pc), (into (registerAt m pc a) (staticOf x) (λ _. refl), tt))
       rules-of-hold (InvokeVirtual n b r) h = (
@@ -98,7 +118,10 @@ module _ (p : Program) (c : Claim) (full : (s : Slot) (k : ℕ) → has (c s) k 
           λ k l _ q _. (full (registerAt q 0 _) k ∙ class-bit k l, λ i _. into (registerAt m pc _) (registerAt q 0 _) (λ _. refl)),
           (
             λ k _ _ q _. into (returnedBy q) (resultAt m (suc pc)) (λ _. refl),
-            (λ _ _ _ q _ k l _. caught-holds k l, (λ _ _ _ q _ k l _. uncaught-holds k l, tt)),
+            (
+              (λ _. own-caught nullClass, λ _ _ _ q _ k l _. caught-holds k l),
+              ((λ _. own-uncaught nullClass, λ _ _ _ q _ k l _. uncaught-holds k l), tt),
+            ),
           ),
         ),
       )
@@ -116,10 +139,16 @@ module _ (p : Program) (c : Claim) (full : (s : Slot) (k : ℕ) → has (c s) k 
       rules-of-hold (MoveException a) h = (except-holds a (suc pc), (into (resultAt m pc) (registerAt m (suc pc) a) (λ _. refl), tt))
       rules-of-hold (Return a) h = (into (registerAt m pc a) (returnedBy m) (λ _. refl), tt)
       rules-of-hold ReturnVoid h = (full (returnedBy m) zeroBit ∙ zero-bit, tt)
-      rules-of-hold (Throw a) h = (λ k l _ _. caught-holds k l, (λ k l _ _. uncaught-holds k l, tt))
+      rules-of-hold (Throw a) h =
+          ((λ _. own-caught nullClass, λ k l _ _. caught-holds k l), ((λ _. own-uncaught nullClass, λ k l _ _. uncaught-holds k l), tt))
       rules-of-hold (InstanceOf a b k) h = (except-holds a (suc pc), (numbers-hold a, tt))
-      rules-of-hold (CheckCast a k) h =
-          (except-holds a (suc pc), ((λ _. bit-after a zeroBit zero-bit, λ j l _ _. bit-after a j (class-bit j l)), tt))
+      rules-of-hold (CheckCast a k) h = (
+        except-holds a (suc pc),
+        (
+          (λ _. bit-after a zeroBit zero-bit, λ j l _ _. bit-after a j (class-bit j l)),
+          (λ _ _ _ _. own-caught castClass, (λ _ _ _ _. own-uncaught castClass, tt)),
+        ),
+      )
 
   all-accepted : Formed p → verdict p c ≡ accepted
   all-accepted formed =

@@ -78,9 +78,9 @@ refusals =
     -- 13: bit 61, a class bit past the last class, in a register's mask and in the last; a number's bit in a mask of exceptions
     ∷ sample ("110000" ++ "2000000000000000" ++ zeros ++ "\n") 13 1
     ∷ sample ("110000" ++ zeros ++ "2000000000000000" ++ "\n") 13 1
-    ∷ sample (addresses ++ "1400" ++ "0000000000000004" ++ "\n") 13 4
+    ∷ sample (addresses ++ "1400" ++ "0000000000000020" ++ "\n") 13 4
     ∷ sample (addresses ++ results ++ "1500" ++ zeros ++ "\n") 13 6
-    ∷ sample (addresses ++ results ++ "1500" ++ none ++ "\n1501" ++ "0000000000000004" ++ "\n") 13 7
+    ∷ sample (addresses ++ results ++ "1500" ++ none ++ "\n1501" ++ "0000000000000020" ++ "\n") 13 7
     ∷ []
 
 abbrev orders : List Row

@@ -1,4 +1,5 @@
 // Arithmetic and branches on two values.
+use super::ARITHMETIC_CLASS;
 use arithmetic::Computed;
 use instruction::Condition;
 use instruction::Operation;
@@ -15,8 +16,8 @@ fn computed_into(to: u8, k: Computed) -> Effect
     ensures value { λ r. ⌜ r ≡ computedInto to k ⌝ }
 {
     let Computed::Number(z) = k else {
-        return Effect::Fail {
-            fault: Fault::DivisionByZero,
+        return Effect::RaiseNew {
+            class: ARITHMETIC_CLASS,
         };
     };
     Effect::Write {

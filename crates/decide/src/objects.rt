@@ -1,5 +1,7 @@
 // What an instruction does with an object of class `class`: fields, virtual calls, exceptions, tests of a class. That a value is
 // an object is tested first.
+use super::CAST_CLASS;
+use super::NULL_CLASS;
 use machine::Effect;
 use machine::Fault;
 use machine::Value;
@@ -8,14 +10,12 @@ ghost use mathlib.Core.Path.{_≡_};
 ghost use Rattle.program.specs.Tables.{programIn};
 ghost use Rattle.machine.specs.Decide.{notObject, getField, putField, callOf, virtualCall, throw, instanceOf, checkCast};
 
-// A number where an object is wanted.
+// A number where an object is wanted: null raises, another number is a fault.
 fn not_object(z: i32) -> Effect
     ensures value { λ r. ⌜ r ≡ notObject z ⌝ }
 {
     if z == 0 {
-        return Effect::Fail {
-            fault: Fault::NullAsObject,
-        };
+        return Effect::RaiseNew { class: NULL_CLASS };
     }
     Effect::Fail {
         fault: Fault::NumberAsObject,
@@ -132,9 +132,7 @@ pub fn check_cast(t: &[u64; 768], class: usize, to: u8, top: u8, v: Value) -> Ef
         if search::below(t, class, top as usize) {
             return Effect::Write { to, value: v };
         }
-        return Effect::Fail {
-            fault: Fault::FailedCast,
-        };
+        return Effect::RaiseNew { class: CAST_CLASS };
     };
     if z == 0 { // null passes a cast
         return Effect::Write { to, value: v };

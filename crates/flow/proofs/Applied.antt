@@ -13,17 +13,18 @@ use Rattle.reader.specs.Formed.{Formed}
 use Rattle.machine.specs.declared.Value.{Value}
 use Rattle.machine.specs.declared.Value.the-variants.{Reference}
 use Rattle.machine.specs.declared.Effect.{Effect}
-use Rattle.machine.specs.declared.Effect.the-variants.{Next, Jump, Write, Load, LoadStatic, Make, Store, StoreStatic, Call, Exit, Raise, Fail}
+use Rattle.machine.specs.declared.Effect.the-variants.{Next, Jump, Write, Load, LoadStatic, Make, Store, StoreStatic, Call, Exit, Raise}
+use Rattle.machine.specs.declared.Effect.the-variants.{RaiseNew, Fail}
 use Rattle.machine.specs.State.{Frame, Object, Status, running, raised, done, uncaught, failed, State, objectAt, static}
 use Rattle.machine.specs.Run.{moved, resumed, fresh, stored, returned, apply, dropped, unwound}
 use Rattle.machine.specs.Shaped.{Shaped, Fitting}
 use Rattle.flow.specs.Claim.{staticOf, returnedBy, leaving, Claim}
 use Rattle.flow.specs.Flows.{Holds}
 use Rattle.flow.specs.Rules.{carried}
-use Rattle.flow.specs.Inside.{Asked, RaisedAt, by-call, Lies, FrameIn, CalledFrom, FramesIn, StaticsIn, PendingIn, Inside}
+use Rattle.flow.specs.Inside.{Asked, RaisedAt, Lies, FrameIn, CalledFrom, FramesIn, StaticsIn, PendingIn, Inside}
 use Rattle.flow.specs.Safe.{SafeEffect}
 use Rattle.flow.proofs.Frames.{Keeps, lies-kept, frame-kept, frames-kept, set-lies}
-use Rattle.flow.proofs.Calls.{target-inside, call-rules, raised-rules}
+use Rattle.flow.proofs.Calls.{target-inside, call-rules, raised-by-call, raised-rules}
 use Rattle.flow.proofs.Objects.{made-keeps, made-class, stored-keeps, made-in, stored-in}
 
 module _ (p : Program) (c : Claim) (formed : Formed p) (asked : Asked p c) (s : State) (shaped : Shaped p s) (inside : Inside p c s) where
@@ -51,10 +52,15 @@ module _ (p : Program) (c : Claim) (formed : Formed p) (asked : Asked p c) (s : 
       with-frames _ running (resumed-in g (suc (g .address)) v (below .0) (w .goes) (w .carries) (w .answers _ h), below .1, below .2) tt
 
   -- an exception of an object that leaves method q
-  dropped-inside : (q o : ℕ) → has (c (leaving q)) (objectAt s o .class) ≡ true → (rest : List Frame) → CalledFrom p c q rest
+  dropped-inside : (q o : ℕ) → o < length (s .objects) → has (c (leaving q)) (objectAt s o .class) ≡ true → (rest : List Frame)
+      → CalledFrom p c q rest
       → FramesIn p c (s .objects) rest → Inside p c (dropped s o rest)
-  dropped-inside q o h [] called below = with-frames [] (uncaught o) tt tt
-  dropped-inside q o h (g ∷ rest) called below = with-frames (g ∷ rest) (raised o) below (by-call q called h)
+  dropped-inside q o l h [] called below = with-frames [] (uncaught o) tt tt
+  dropped-inside q o l h (g ∷ rest) called below =
+      with-frames (g ∷ rest) (raised o) below
+      (raised-by-call p c formed asked (g .method) (g .address) (below .0 .inside) q (objectAt s o .class) (inside .objects o l .class-in)
+      called
+      h)
 
   module _ (f : Frame) (rest : List Frame) (e : s .frames ≡ f ∷ rest) where
     top-in : FramesIn p c (s .objects) (f ∷ rest)
@@ -77,6 +83,18 @@ module _ (p : Program) (c : Claim) (formed : Formed p) (asked : Asked p c) (s : 
           objects = made-in p c (s .objects) (inside .objects) formed asked k (safe .0);
           statics = statics-kept os keeps;
           pending = tt;
+        }
+
+    -- a new object, pending
+    raise-inside : (k : ℕ) → SafeEffect p c s f (RaiseNew k) → Inside p c (apply p s f rest (RaiseNew k))
+    raise-inside k safe =
+        let os = s .objects ++ fresh p k ∷ [] in
+        let keeps : Keeps (s .objects) os = made-keeps (s .objects) (fresh p k) in
+        record {
+          frames = frames-kept p c (s .objects) os keeps (s .frames) (inside .frames);
+          objects = made-in p c (s .objects) (inside .objects) formed asked k (safe .0);
+          statics = statics-kept os keeps;
+          pending = rw (e, made-class (s .objects) (fresh p k)) (safe .1);
         }
 
     store-inside : (o x : ℕ) (v : Value) → Fitting p s f (Store o x v) → SafeEffect p c s f (Store o x v) → Inside p c (apply p s f rest (Store o x v))
@@ -117,18 +135,19 @@ module _ (p : Program) (c : Claim) (formed : Formed p) (asked : Asked p c) (s : 
     applied-inside (Call m a) fits safe = with-frames _ running (safe .1, safe .0, top-in) tt
     applied-inside (Exit v) fits safe = returned-inside (f .method) v safe rest (top-in .1) (top-in .2)
     applied-inside (Raise o) fits safe = with-frames (s .frames) (raised o) (inside .frames) (rw e safe)
+    applied-inside (RaiseNew k) fits safe = raise-inside k safe
     applied-inside (Fail fault) fits safe = with-frames (s .frames) (failed fault) (inside .frames) (rw e tt)
 
     module _ (o : ℕ) (l : o < length (s .objects)) (at : RaisedAt p c (f .method) (f .address) (objectAt s o .class)) where
       -- rule 10: with no handler the object's bit is in the method's mask
       pub leaves-in : handlerFor p (f .method) (f .address) (objectAt s o .class) ≡ Uncaught → has (c (leaving (f .method))) (objectAt s o .class) ≡ true
       leaves-in none =
-          raised-rules p c formed asked (f .method) (f .address) (top-in .0 .inside) (objectAt s o .class) (inside .objects o l .class-in) at .1 none
+          raised-rules p c formed asked (f .method) (f .address) (top-in .0 .inside) (objectAt s o .class) at .1 none
 
       pub unwound-inside : (r : Handling) → handlerFor p (f .method) (f .address) (objectAt s o .class) ≡ r → Inside p c (unwound p s f rest o r)
-      unwound-inside Uncaught none = dropped-inside (f .method) o (leaves-in none) rest (top-in .1) (top-in .2)
+      unwound-inside Uncaught none = dropped-inside (f .method) o l (leaves-in none) rest (top-in .1) (top-in .2)
       unwound-inside (Caught h) found =
-          let w = raised-rules p c formed asked (f .method) (f .address) (top-in .0 .inside) (objectAt s o .class) (inside .objects o l .class-in) at .0 h found in
+          let w = raised-rules p c formed asked (f .method) (f .address) (top-in .0 .inside) (objectAt s o .class) at .0 h found in
           with-frames _ running
           (top-changed _ refl
           (resumed-in f (handlerTarget p (f .method) h) (Reference o) (top-in .0)

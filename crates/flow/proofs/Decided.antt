@@ -1,7 +1,7 @@
 -- What an instruction decides at a frame in its masks is safe, where the rules at its address hold: one lemma an instruction.
 -- Assumes nothing.
 use mathlib.Core.Path.{_≡_, refl}
-use mathlib.Core.Bool.{Bool, true, false}
+use mathlib.Core.Bool.{Bool, true, false, not}
 use Prim.Native.Nat.{ℕ, zero, suc, _+_, _-_, _≤_, _<_}
 use native.Mathlib.Nat.{add-zero}
 use native.Mathlib.Omega.{arith}
@@ -13,15 +13,17 @@ use Rattle.text.proofs.Cases.{by-test, never}
 use Rattle.instruction.specs.declared.Condition.{Condition}
 use Rattle.instruction.specs.declared.Condition.the-variants.{Eq, Ne, Lt, Ge, Gt, Le}
 use Rattle.instruction.specs.declared.Operation.{Operation}
+use Rattle.instruction.specs.declared.Operation.the-variants.{Add, Sub, Mul, Div, Rem, And, Or, Xor, Shl, Shr, Ushr}
 use Rattle.instruction.specs.declared.Unary.{Unary}
-use Rattle.instruction.specs.declared.Instruction.the-variants.{InvokeVirtual, Throw}
+use Rattle.instruction.specs.declared.Instruction.the-variants.{InvokeVirtual}
 use Rattle.instruction.specs.Word.{fallsThrough}
 use Rattle.mask.specs.Mask.{zeroBit, otherBit, has, hasNumber}
 use Rattle.mask.proofs.Laws.{has-number}
 use Rattle.arithmetic.specs.declared.Computed.{Computed}
 use Rattle.arithmetic.specs.declared.Computed.the-variants.{Number as Result, ByZero}
-use Rattle.arithmetic.specs.Arithmetic.{isZero, computed, unaryValue, inOrder}
-use Rattle.program.specs.Program.{Program, classCount, methodCount, registers, arguments, codeLength, instructionAt}
+use Rattle.arithmetic.specs.Arithmetic.{divides, isZero, computed, unaryValue, inOrder}
+use Rattle.program.specs.Program.{Program, nullClass, arithmeticClass, castClass, classCount, methodCount, registers, arguments}
+use Rattle.program.specs.Program.{codeLength, instructionAt}
 use Rattle.search.specs.declared.Callee.{Callee}
 use Rattle.search.specs.declared.Callee.the-variants.{Found, Missing}
 use Rattle.search.specs.Search.{below, hasField, virtualCallee}
@@ -38,7 +40,7 @@ use Rattle.flow.specs.Claim.{Slot, registerAt, fieldOf, Claim, numberBit
 use Rattle.flow.specs.Flows.{_⊆_, _&_, each, Holds}
 use Rattle.flow.specs.Rules.{onward, onwardExcept, numbersInto, classesWithField, castInto, parameter, argumentInto, receivers, receiverInto}
 use Rattle.flow.specs.Calls.{by-virtual}
-use Rattle.flow.specs.Inside.{Asked, by-throw, Lies, FrameIn, ObjectsIn}
+use Rattle.flow.specs.Inside.{Asked, RaisedAt, Lies, FrameIn, ObjectsIn}
 use Rattle.flow.specs.Safe.{SafeEffect}
 use Rattle.flow.proofs.Frames.{lies-made, moved-in, wrote-in, entered-in}
 
@@ -52,6 +54,21 @@ next-inside p formed m pc l falls =
     let stops′ : fallsThrough (instructionAt p m pc) ≡ false = rw last at stops in
     never (cc))
 
+-- a division by zero divides, by zero
+by-zero : (o : Operation) (x y : ℤ) → computed o x y ≡ ByZero → (divides o ≡ true) × (isZero y ≡ true)
+unfolding computed
+by-zero Add x y e = never (cc)
+by-zero Sub x y e = never (cc)
+by-zero Mul x y e = never (cc)
+by-zero Div x y e = (refl, by-test (isZero y) (λ t. t) (λ t. never (cc)))
+by-zero Rem x y e = (refl, by-test (isZero y) (λ t. t) (λ t. never (cc)))
+by-zero And x y e = never (cc)
+by-zero Or x y e = never (cc)
+by-zero Xor x y e = never (cc)
+by-zero Shl x y e = never (cc)
+by-zero Shr x y e = never (cc)
+by-zero Ushr x y e = never (cc)
+
 -- the two numbers' bits are in the slot's mask: so is a number's
 number-in : (c : Claim) (s : Slot) → (has (c s) zeroBit ≡ true) × (has (c s) otherBit ≡ true) → (z : ℤ) → has (c s) (numberBit z) ≡ true
 number-in c s h z = pick-cases (λ (k : ℕ). has (c s) k ≡ true) (isZero z) zeroBit otherBit (λ _. h .0) (λ _. h .1)
@@ -63,8 +80,16 @@ module _ (p : Program) (c : Claim) (formed : Formed p) (asked : Asked p c) (s : 
   classed : (o : ℕ) (t : Slot) → Lies p c (s .objects) (Reference o) t → objectAt s o .class < classCount p
   classed o t h = objects o (lies-made p c (s .objects) o t h) .class-in
 
-  not-object : (z : ℤ) → SafeEffect p c s f (notObject z)
-  not-object z = pick-cases (SafeEffect p c s f) (isZero z) _ _ (λ _. tt) (λ _. tt)
+  -- class k may be raised here
+  abbrev Raised : ℕ → Type 0
+  Raised k = RaisedAt p c (f .method) (f .address) k
+
+  -- a number used as an object: null, whose bit is in its mask, or another
+  not-object : (z : ℤ) (t : Slot) → Lies p c (s .objects) (Number z) t → (has (c t) zeroBit ≡ true → Raised nullClass)
+      → SafeEffect p c s f (notObject z)
+  not-object z t h raised =
+      pick-cases (SafeEffect p c s f) (isZero z) _ _
+      (λ q. (omega (arith, formed .classes-from), raised (rw q at h))) (λ _. tt)
 
   -- what writes register a, where control goes on
   module _ (a : ℕ) (l : a < registers p (f .method)) (goes : suc (f .address) < codeLength p (f .method))
@@ -72,18 +97,20 @@ module _ (p : Program) (c : Claim) (formed : Formed p) (asked : Asked p c) (s : 
     pub write : (v : Value) → Lies p c (s .objects) v (registerAt (f .method) (suc (f .address)) a) → FrameIn p c (s .objects) (wrote f a v)
     write v = wrote-in p c (s .objects) f here a v size goes l w
 
-    computed-safe : (r : Computed) → Holds c (numbersInto p (f .method) (f .address) a) → SafeEffect p c s f (computedInto a r)
-    computed-safe (Result z) x = write (Number z) (number-in c _ x z)
-    computed-safe ByZero x = tt
+    computed-safe : (r : Computed) → Holds c (numbersInto p (f .method) (f .address) a)
+        → (r ≡ ByZero → Raised arithmeticClass) → SafeEffect p c s f (computedInto a r)
+    computed-safe (Result z) x raised = write (Number z) (number-in c _ x z)
+    computed-safe ByZero x raised = (omega (arith, formed .classes-from), raised refl)
 
     pub binop-safe : (o : Operation) (v u : Value) (t t′ : Slot) → Lies p c (s .objects) v t → Lies p c (s .objects) u t′
         → (hasNumber (c t) ≡ true → hasNumber (c t′) ≡ true → Holds c (numbersInto p (f .method) (f .address) a))
-        → SafeEffect p c s f (binop a o v u)
-    binop-safe o (Number x) (Number y) t t′ h k g =
+        → (divides o ≡ true → has (c t′) zeroBit ≡ true → Raised arithmeticClass) → SafeEffect p c s f (binop a o v u)
+    binop-safe o (Number x) (Number y) t t′ h k g raised =
         computed-safe (computed o x y) (g (has-number (c t) (isZero x) h) (has-number (c t′) (isZero y) k))
-    binop-safe o (Number x) (Reference q) t t′ h k g = tt
-    binop-safe o (Reference q) (Number y) t t′ h k g = tt
-    binop-safe o (Reference q) (Reference r) t t′ h k g = tt
+        (λ e. let z = by-zero o x y e in raised (z .0) (rw (z .1) at k))
+    binop-safe o (Number x) (Reference q) t t′ h k g raised = tt
+    binop-safe o (Reference q) (Number y) t t′ h k g raised = tt
+    binop-safe o (Reference q) (Reference r) t t′ h k g raised = tt
 
     pub unop-safe : (o : Unary) (v : Value) (t : Slot) → Lies p c (s .objects) v t
         → (hasNumber (c t) ≡ true → Holds c (numbersInto p (f .method) (f .address) a)) → SafeEffect p c s f (unop a o v)
@@ -93,9 +120,10 @@ module _ (p : Program) (c : Claim) (formed : Formed p) (asked : Asked p c) (s : 
 
     pub get-safe : (b x : ℕ) (v : Value) → Lies p c (s .objects) v (registerAt (f .method) (f .address) b)
         → Holds c (classesWithField p (f .method) (f .address) b x (λ k. fieldOf k x ⊆ registerAt (f .method) (suc (f .address)) a))
+        → (has (c (registerAt (f .method) (f .address) b)) zeroBit ≡ true → Raised nullClass)
         → SafeEffect p c s f (getField p (classOf s v) a x v)
-    get-safe b x (Number z) h g = not-object z
-    get-safe b x (Reference o) h g =
+    get-safe b x (Number z) h g raised = not-object z (registerAt (f .method) (f .address) b) h raised
+    get-safe b x (Reference o) h g raised =
         pick-cases (SafeEffect p c s f) (hasField p (objectAt s o .class) x) _ _
         (λ t. write _ (g _ (classed o _ h) h t _ (objects o (lies-made p c (s .objects) o _ h) .masks .fields-in x t)))
         (λ _. tt)
@@ -109,15 +137,18 @@ module _ (p : Program) (c : Claim) (formed : Formed p) (asked : Asked p c) (s : 
         (Number (pos 1)) null (λ _. x .1) (λ _. x .0))
 
     pub cast-safe : (k : ℕ) (v : Value) → Lies p c (s .objects) v (registerAt (f .method) (f .address) a)
-        → Holds c (castInto p (f .method) (f .address) a k) → SafeEffect p c s f (checkCast p (classOf s v) a k v)
-    cast-safe k (Number z) h x =
+        → Holds c (castInto p (f .method) (f .address) a k)
+        → ((j : ℕ) → j < classCount p → has (c (registerAt (f .method) (f .address) a)) j ≡ true
+        → not (below p j k) ≡ true → Raised castClass)
+        → SafeEffect p c s f (checkCast p (classOf s v) a k v)
+    cast-safe k (Number z) h x raised =
         pick-cases (SafeEffect p c s f) (isZero z) _ _
         (λ t. write (Number z) (rw t (x .0 (rw t at h))))
         (λ _. tt)
-    cast-safe k (Reference o) h x =
+    cast-safe k (Reference o) h x raised =
         pick-cases (SafeEffect p c s f) (below p (objectAt s o .class) k) _ _
         (λ t. write (Reference o) (x .1 _ (classed o _ h) h t))
-        (λ _. tt)
+        (λ t. (omega (arith, formed .classes-from), raised _ (classed o _ h) h (rw t)))
 
   module _ (goes : suc (f .address) < codeLength p (f .method)) (w : Holds c (onward p (f .method) (f .address) (suc (f .address)))) where
     -- one on
@@ -126,9 +157,10 @@ module _ (p : Program) (c : Claim) (formed : Formed p) (asked : Asked p c) (s : 
 
     pub put-safe : (a b x : ℕ) (v : Value) → a < registers p (f .method) → Lies p c (s .objects) v (registerAt (f .method) (f .address) b)
         → Holds c (classesWithField p (f .method) (f .address) b x (λ k. registerAt (f .method) (f .address) a ⊆ fieldOf k x))
+        → (has (c (registerAt (f .method) (f .address) b)) zeroBit ≡ true → Raised nullClass)
         → SafeEffect p c s f (putField p (classOf s v) x (register f a) v)
-    put-safe a b x (Number z) l h g = not-object z
-    put-safe a b x (Reference o) l h g =
+    put-safe a b x (Number z) l h g raised = not-object z (registerAt (f .method) (f .address) b) h raised
+    put-safe a b x (Reference o) l h g raised =
         pick-cases (SafeEffect p c s f) (hasField p (objectAt s o .class) x) _ _
         (λ t. (t, g _ (classed o _ h) h t _ (here .masks .registers-in a l), on))
         (λ _. tt)
@@ -152,11 +184,13 @@ module _ (p : Program) (c : Claim) (formed : Formed p) (asked : Asked p c) (s : 
       branch-safe o (Reference q) (Number z) = compared-safe o false
       branch-safe o (Reference q) (Reference r) = compared-safe o (eqb q r)
 
-  pub throw-safe : (a : ℕ) (v : Value) → instructionAt p (f .method) (f .address) ≡ Throw a
-      → Lies p c (s .objects) v (registerAt (f .method) (f .address) a) → SafeEffect p c s f (throw p (classOf s v) v)
-  throw-safe a (Number z) e h = not-object z
-  throw-safe a (Reference o) e h =
-      pick-cases (SafeEffect p c s f) (below p (objectAt s o .class) 1) _ _ (λ t. by-throw a e t h) (λ _. tt)
+  pub throw-safe : (a : ℕ) (v : Value) → Lies p c (s .objects) v (registerAt (f .method) (f .address) a)
+      → (has (c (registerAt (f .method) (f .address) a)) zeroBit ≡ true → Raised nullClass)
+      → ((k : ℕ) → k < classCount p → has (c (registerAt (f .method) (f .address) a)) k ≡ true → below p k 1 ≡ true → Raised k)
+      → SafeEffect p c s f (throw p (classOf s v) v)
+  throw-safe a (Number z) h null thrown = not-object z (registerAt (f .method) (f .address) a) h null
+  throw-safe a (Reference o) h null thrown =
+      pick-cases (SafeEffect p c s f) (below p (objectAt s o .class) 1) _ _ (λ t. thrown _ (classed o _ h) h t) (λ _. tt)
 
   -- the first frame of a callee
   pub enter : (q a : ℕ) → q < methodCount p
@@ -165,7 +199,7 @@ module _ (p : Program) (c : Claim) (formed : Formed p) (asked : Asked p c) (s : 
   enter q a l args =
       let method = formed .methods q l in
       entered-in p c (s .objects) q a f (method .code-from) (method .arguments-to)
-      (asked q 0 (method .code-from) .1 .0 refl) args
+      (asked .at q 0 (method .code-from) .entering refl) args
 
   -- an argument that is argumentInto as it is
   pub argument : (r q i : ℕ) → r + i < registers p (f .method) → Holds c (argumentInto p (f .method) (f .address) r q i)
@@ -192,6 +226,8 @@ module _ (p : Program) (c : Claim) (formed : Formed p) (asked : Asked p c) (s : 
         )
 
     pub virtual-safe : (v : Value) → instructionAt p (f .method) (f .address) ≡ InvokeVirtual n b r → register f r ≡ v
-        → Lies p c (s .objects) v (registerAt (f .method) (f .address) r) → SafeEffect p c s f (virtualCall p (classOf s v) n b r v)
-    virtual-safe (Number z) i e h = not-object z
-    virtual-safe (Reference o) i e h = call-safe o i e h (virtualCallee p (objectAt s o .class) n b) refl
+        → Lies p c (s .objects) v (registerAt (f .method) (f .address) r)
+        → (has (c (registerAt (f .method) (f .address) r)) zeroBit ≡ true → Raised nullClass)
+        → SafeEffect p c s f (virtualCall p (classOf s v) n b r v)
+    virtual-safe (Number z) i e h raised = not-object z (registerAt (f .method) (f .address) r) h raised
+    virtual-safe (Reference o) i e h raised = call-safe o i e h (virtualCallee p (objectAt s o .class) n b) refl

@@ -23,7 +23,7 @@ use Rattle.flow.proofs.Samples.{zeros, nonzeros, alike, plain, allBits,
 fulls : List Row
 fulls =
     -- "a claim with all allowed bits is accepted"
-    row sampleProgram (allBits 2) accepted
+    row sampleProgram (allBits 5) accepted
     ∷ row allInstructions full accepted
     ∷ []
 
@@ -46,15 +46,15 @@ unasked =
     (but (registerAt 0 0 1) zeros (but (registerAt 0 1 1) zeros full))
     accepted
     -- the result before a throw where it is handled; classes not at or below Throwable, there and where a throw leaves
-    ∷ row (calling (Throw 0 ∷ []) (handler 0 1 1 0 ∷ [])) (but (resultAt 0 1) 6 full) accepted
-    ∷ row (doing (Throw 0 ∷ [])) (but (leaving 0) 6 full) accepted
+    ∷ row (calling (Throw 0 ∷ []) (handler 0 1 1 0 ∷ [])) (but (resultAt 0 1) 30 full) accepted
+    ∷ row (doing (Throw 0 ∷ [])) (but (leaving 0) 30 full) accepted
     -- numbers of a sum whose operand is an object
-    ∷ row (doing (NewInstance 1 3 ∷ Binop Add 0 0 1 ∷ [])) (but (registerAt 0 1 1) 8 (but (registerAt 0 2 0) 0 full)) accepted
+    ∷ row (doing (NewInstance 1 5 ∷ Binop Add 0 0 1 ∷ [])) (but (registerAt 0 1 1) 32 (but (registerAt 0 2 0) 0 full)) accepted
     -- the field of a class that the object's register does not have
-    ∷ row (doing (NewInstance 1 3 ∷ Iget 0 1 0 ∷ []))
-    (but (registerAt 0 1 1) 8 (but (fieldOf 3 0) zeros (but (registerAt 0 2 0) zeros full)))
+    ∷ row (doing (NewInstance 1 5 ∷ Iget 0 1 0 ∷ []))
+    (but (registerAt 0 1 1) 32 (but (fieldOf 5 0) zeros (but (registerAt 0 2 0) zeros full)))
     accepted
-    ∷ row (doing (NewInstance 1 3 ∷ Iput 0 1 0 ∷ [])) (but (registerAt 0 1 1) 8 (but (fieldOf 4 0) zeros full)) accepted
+    ∷ row (doing (NewInstance 1 5 ∷ Iput 0 1 0 ∷ [])) (but (registerAt 0 1 1) 32 (but (fieldOf 6 0) zeros full)) accepted
     -- what follows a goto, a return and a throw
     ∷ row (doing (Goto 2 ∷ ReturnVoid ∷ [])) (but (registerAt 0 1 0) 0 (but (resultAt 0 1) 0 full)) accepted
     ∷ row (doing (ReturnVoid ∷ [])) (but (registerAt 0 1 0) 0 (but (resultAt 0 1) 0 full)) accepted
@@ -65,9 +65,9 @@ unasked =
     ∷ row (doing []) (but (registerAt 1 0 2) nonzeros (but (returnedBy 1) nonzeros full)) accepted
     -- anything of a field read from no class, or of the negative of an object
     ∷ row (doing (Iget 0 1 0 ∷ [])) (but (registerAt 0 0 1) zeros (but (registerAt 0 1 0) 0 full)) accepted
-    ∷ row (doing (NewInstance 1 3 ∷ Unop Neg 0 1 ∷ [])) (but (registerAt 0 1 1) 8 (but (registerAt 0 2 0) 0 full)) accepted
+    ∷ row (doing (NewInstance 1 5 ∷ Unop Neg 0 1 ∷ [])) (but (registerAt 0 1 1) 32 (but (registerAt 0 2 0) 0 full)) accepted
     -- the result before a call where its exception is handled
-    ∷ row (calling (InvokeStatic 3 1 0 ∷ ReturnVoid ∷ []) (handler 0 1 2 0 ∷ [])) (but (resultAt 0 2) 31 full) accepted
+    ∷ row (calling (InvokeStatic 3 1 0 ∷ ReturnVoid ∷ []) (handler 0 1 2 0 ∷ [])) (but (resultAt 0 2) 127 full) accepted
     ∷ []
 
 unasked-right : allRight unasked ≡ true
@@ -76,12 +76,12 @@ unfolding unasked verdict has subset hasNumber instructionOf fieldsOf operationO
 unasked-right = refl
 
 -- the same of a cast: numbers other than zero, and classes not at or below the cast's
-cast-drops : verdict (doing (CheckCast 0 3 ∷ [])) (but (registerAt 0 1 0) (zeros + 24) full) ≡ accepted
+cast-drops : verdict (doing (CheckCast 0 5 ∷ [])) (but (registerAt 0 1 0) (zeros + 96) full) ≡ accepted
 unfolding verdict has subset hasNumber instructionOf fieldsOf belowIn hasField handlerFor
 cast-drops = refl
 
 -- of a receiver's parameter: null, numbers, and classes that lead elsewhere
-receiver-drops : verdict (doing (InvokeVirtual 7 2 0 ∷ [])) (but (registerAt 1 0 1) 8 (but (registerAt 2 0 0) 16 full)) ≡ accepted
+receiver-drops : verdict (doing (InvokeVirtual 7 2 0 ∷ [])) (but (registerAt 1 0 1) 32 (but (registerAt 2 0 0) 64 full)) ≡ accepted
 unfolding verdict has subset hasNumber instructionOf fieldsOf belowIn hasField answers methodIn calleeIn catches handlerFor
 receiver-drops = refl
 
@@ -91,7 +91,7 @@ afterCalls =
     -- the result before a call, static or virtual, at next
     row (doing (InvokeStatic 3 1 0 ∷ [])) (but (returnedBy 3) 0 (but (resultAt 0 1) 0 full)) accepted
     ∷ row (doing (InvokeVirtual 7 2 0 ∷ []))
-    (but (registerAt 0 0 0) (zeros + 16) (but (returnedBy 2) zeros (but (resultAt 0 1) zeros full)))
+    (but (registerAt 0 0 0) (zeros + 64) (but (returnedBy 2) zeros (but (resultAt 0 1) zeros full)))
     accepted
     -- of a virtual call without a callee, anything of the result at next
     ∷ row (doing (InvokeVirtual 9 1 0 ∷ [])) (but (resultAt 0 1) 0 full) accepted
@@ -110,7 +110,7 @@ broken : List Row
 broken =
     -- 0: a static, a field
     breaks 0 [] (staticOf 1) nonzeros
-    ∷ breaks 0 [] (fieldOf 4 0) nonzeros
+    ∷ breaks 0 [] (fieldOf 6 0) nonzeros
     -- "tested first": no mask has a bit, so that rules 1 and 8 are broken too
     ∷ row (doing []) (alike 0 0) (violated 0 0 0)
     -- and where rule 4 is broken at the same address
@@ -140,24 +140,24 @@ broken =
     ∷ breaks 4 (Binop Add 0 0 1 ∷ []) (registerAt 0 1 0) zeros
     ∷ breaks 4 (Binop Add 0 0 1 ∷ []) (registerAt 0 1 0) nonzeros
     ∷ breaks 4 (Unop Neg 0 1 ∷ []) (registerAt 0 1 0) zeros
-    ∷ breaks 4 (NewInstance 0 3 ∷ []) (registerAt 0 1 0) 16
+    ∷ breaks 4 (NewInstance 0 5 ∷ []) (registerAt 0 1 0) 64
     ∷ breaks 4 (Iget 0 1 1 ∷ []) (registerAt 0 1 0) zeros
     ∷ breaks 4 (Sget 0 1 ∷ []) (registerAt 0 1 0) zeros
     ∷ breaks 4 (MoveResult 0 ∷ []) (registerAt 0 1 0) zeros
     ∷ breaks 4 (MoveException 0 ∷ []) (registerAt 0 1 0) zeros
-    ∷ breaks 4 (InstanceOf 0 1 3 ∷ []) (registerAt 0 1 0) zeros
-    -- a cast to class 3 passes null and class 4
-    ∷ breaks 4 (CheckCast 0 3 ∷ []) (registerAt 0 1 0) 24
-    ∷ breaks 4 (CheckCast 0 3 ∷ []) (registerAt 0 1 0) (zeros + 8)
+    ∷ breaks 4 (InstanceOf 0 1 5 ∷ []) (registerAt 0 1 0) zeros
+    -- a cast to class 5 passes null and class 6
+    ∷ breaks 4 (CheckCast 0 5 ∷ []) (registerAt 0 1 0) 96
+    ∷ breaks 4 (CheckCast 0 5 ∷ []) (registerAt 0 1 0) (zeros + 32)
     -- 5: a field in a class below, a static
-    ∷ breaks 5 (Iput 0 1 0 ∷ []) (fieldOf 4 0) zeros
+    ∷ breaks 5 (Iput 0 1 0 ∷ []) (fieldOf 6 0) zeros
     ∷ breaks 5 (Sput 0 1 ∷ []) (staticOf 1) zeros
     -- 6: an argument, a receiver's class, an argument after the receiver
     ∷ breaks 6 (InvokeStatic 3 1 0 ∷ []) (registerAt 3 0 1) zeros
-    ∷ breaks 6 (InvokeVirtual 7 2 0 ∷ []) (registerAt 2 0 0) 8
+    ∷ breaks 6 (InvokeVirtual 7 2 0 ∷ []) (registerAt 2 0 0) 32
     ∷ breaks 6 (InvokeVirtual 7 2 0 ∷ []) (registerAt 1 0 2) zeros
     -- each class that leads to a callee is asked of its parameter
-    ∷ row (program (InvokeVirtual 8 1 0 ∷ [])) (but (registerAt 3 0 0) 8 full) (violated 6 0 0)
+    ∷ row (program (InvokeVirtual 8 1 0 ∷ [])) (but (registerAt 3 0 0) 32 full) (violated 6 0 0)
     -- 7, 8: a virtual call, a return of a register
     ∷ breaks 7 (InvokeVirtual 7 2 0 ∷ []) (resultAt 0 1) zeros
     ∷ breaks 8 (Return 0 ∷ []) (returnedBy 0) zeros
@@ -166,13 +166,13 @@ broken =
     ∷ row (calling (Throw 0 ∷ []) (handler 0 1 1 2 ∷ [])) (but (resultAt 0 1) zeros full) (violated 9 0 0)
     ∷ row (calling (Throw 0 ∷ []) (handler 0 1 1 2 ∷ [])) (but (registerAt 0 1 1) zeros full) (violated 9 0 0)
     ∷ row (calling (InvokeStatic 3 1 0 ∷ Nop ∷ []) (handler 0 1 2 2 ∷ [])) (but (resultAt 0 2) zeros full) (violated 9 0 0)
-    ∷ row (calling (InvokeStatic 3 1 0 ∷ Nop ∷ []) (handler 0 1 2 0 ∷ [])) (but (resultAt 0 2) (zeros + 6) full) (violated 9 0 0)
+    ∷ row (calling (InvokeStatic 3 1 0 ∷ Nop ∷ []) (handler 0 1 2 0 ∷ [])) (but (resultAt 0 2) (zeros + 30) full) (violated 9 0 0)
     ∷ row (calling (InvokeVirtual 7 2 0 ∷ Nop ∷ []) (handler 0 1 2 2 ∷ [])) (but (registerAt 0 2 1) zeros full) (violated 9 0 0)
     -- 10: what a throw lets leave; what leaves a callee, though it is no Throwable, and where it is one
-    ∷ breaks 10 (Throw 0 ∷ []) (leaving 0) 4
-    ∷ breaks 10 (InvokeStatic 3 1 0 ∷ []) (leaving 0) 6
-    ∷ breaks 10 (InvokeStatic 3 1 0 ∷ []) (leaving 0) 25
-    ∷ breaks 10 (InvokeVirtual 7 2 0 ∷ []) (leaving 0) 6
+    ∷ breaks 10 (Throw 0 ∷ []) (leaving 0) 28
+    ∷ breaks 10 (InvokeStatic 3 1 0 ∷ []) (leaving 0) 30
+    ∷ breaks 10 (InvokeStatic 3 1 0 ∷ []) (leaving 0) 97
+    ∷ breaks 10 (InvokeVirtual 7 2 0 ∷ []) (leaving 0) 30
     -- class 1 breaks 10 and class 2 breaks 9: the lowest rule is reported
     ∷ row (calling (Throw 0 ∷ []) (handler 0 1 1 2 ∷ [])) (but (leaving 0) 0 (but (resultAt 0 1) zeros full)) (violated 9 0 0)
     -- a lower method comes before a lower address, and that before a lower rule
@@ -199,8 +199,8 @@ all-calls : callList allInstructions full ≡ made 0 6 1 ∷ made 0 6 2 ∷ made
 unfolding callList has instructionOf fieldsOf answers methodIn calleeIn
 all-calls = refl
 
--- with class 4 alone in the receiver
-one-class : callList allInstructions (but (registerAt 0 6 0) 16 full) ≡ made 0 6 2 ∷ made 0 12 3 ∷ []
+-- with class 6 alone in the receiver
+one-class : callList allInstructions (but (registerAt 0 6 0) 64 full) ≡ made 0 6 2 ∷ made 0 12 3 ∷ []
 unfolding callList has instructionOf fieldsOf answers methodIn calleeIn
 one-class = refl
 

@@ -7,7 +7,8 @@ use Rattle.search.specs.declared.Handling.{Handling}
 use Rattle.search.specs.declared.Handling.the-variants.{Caught, Uncaught}
 use Rattle.reader.specs.Formed.{Formed}
 use Rattle.machine.specs.declared.Effect.{Effect}
-use Rattle.machine.specs.declared.Effect.the-variants.{Next, Jump, Write, Load, LoadStatic, Make, Store, StoreStatic, Call, Exit, Raise, Fail}
+use Rattle.machine.specs.declared.Effect.the-variants.{Next, Jump, Write, Load, LoadStatic, Make, Store, StoreStatic, Call, Exit, Raise}
+use Rattle.machine.specs.declared.Effect.the-variants.{RaiseNew, Fail}
 use Rattle.machine.specs.State.{Frame, State}
 use Rattle.machine.specs.Run.{fresh, apply, unwound, step}
 use Rattle.machine.specs.Shaped.{Shaped, Fitting}
@@ -30,6 +31,7 @@ module _ (p : Program) (s : State) where
   applied-keeps f [] (Exit v) fits = λ o l. refl
   applied-keeps f (g ∷ rest) (Exit v) fits = λ o l. refl
   applied-keeps f rest (Raise i) fits = λ o l. refl
+  applied-keeps f rest (RaiseNew k) fits = made-keeps (s .objects) (fresh p k)
   applied-keeps f rest (Fail e) fits = λ o l. refl
 
   unwound-keeps : (f : Frame) (rest : List Frame) (i : ℕ) (r : Handling) → Keeps (s .objects) (unwound p s f rest i r .objects)

@@ -20,3 +20,4 @@ pub mod Says
 pub mod Samples
 pub mod Examples
 pub mod Refuted
+pub mod Raising

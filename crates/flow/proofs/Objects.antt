@@ -45,7 +45,7 @@ module _ (p : Program) (c : Claim) where
         masks = record {
           fields-in = λ x t.
               replicate-at (λ (v : Value). Lies p c os v (fieldOf k x)) (fieldCount p) null x
-              (asked 0 0 (formed .methods 0 (formed .methods-from) .code-from) .0 refl .0 k l x (field-exists p k x t) t);
+              (asked .memory .0 k l x (field-exists p k x t) t);
         };
       }
 

@@ -7,7 +7,7 @@ use Prim.Native.Nat.{_<_}
 use native.Mathlib.Omega.{arith}
 use lib.IntN.{pos}
 use Rattle.text.proofs.Cases.{never}
-use Rattle.instruction.specs.declared.Instruction.the-variants.{Const, NewInstance, Iput, Sput, InvokeStatic, Throw}
+use Rattle.instruction.specs.declared.Instruction.the-variants.{Const, NewInstance, Iget, Iput, Sput, InvokeStatic, Throw}
 use Rattle.instruction.specs.Word.{instructionOf, fieldsOf, signedOf}
 use Rattle.mask.specs.Mask.{has}
 use Rattle.search.specs.Search.{belowIn, hasField, handlerFor}
@@ -43,18 +43,18 @@ waiting-register :
 unfolding has run step instructionOf fieldsOf signedOf
 waiting-register list h = false≢true (h .frames-in .1 .0 .registers-in 0 first-of-two)
 
--- field 0 of an object of class 3 is 5
+-- field 0 of an object of class 5 is 5
 field :
     (list : List Made)
-    → Covered (doing (NewInstance 0 3 ∷ Const 1 (pos 5) ∷ Iput 1 0 0 ∷ [])) (but (fieldOf 3 0) zeros full) list 3
+    → Covered (doing (NewInstance 0 5 ∷ Const 1 (pos 5) ∷ Iput 1 0 0 ∷ [])) (but (fieldOf 5 0) zeros full) list 3
     → ⊥
 unfolding has run step instructionOf fieldsOf signedOf belowIn hasField
 field list h = false≢true (h .objects-in .0 .fields-in 0 refl)
 
--- static 1 is an object of class 3
+-- static 1 is an object of class 5
 static :
     (list : List Made)
-    → Covered (doing (NewInstance 0 3 ∷ Sput 0 1 ∷ [])) (but (staticOf 1) zeros full) list 2
+    → Covered (doing (NewInstance 0 5 ∷ Sput 0 1 ∷ [])) (but (staticOf 1) zeros full) list 2
     → ⊥
 unfolding has run step instructionOf fieldsOf
 static list h = false≢true (h .statics-in 1 last-of-two)
@@ -66,6 +66,14 @@ uncaught :
     → ⊥
 unfolding has leavings run step instructionOf fieldsOf belowIn handlerFor
 uncaught list h = false≢true (h .leavings-in .0)
+
+-- one that a step raises does: register 1 is null
+raised :
+    (list : List Made)
+    → Covered (doing (Iget 0 1 0 ∷ [])) (but (leaving 0) 0 full) list 2
+    → ⊥
+unfolding has leavings run step instructionOf fieldsOf belowIn handlerFor
+raised list h = false≢true (h .leavings-in .0)
 
 -- one leaves method 3, and is pending at its call
 leaving-callee :

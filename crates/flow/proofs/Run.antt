@@ -25,7 +25,7 @@ module _ (p : Program) (c : Claim) (formed : Formed p) (asked : Asked p c) where
   start-inside : Inside p c (start p)
   start-inside =
       let main = formed .methods 0 (formed .methods-from) in
-      let w = asked 0 0 (main .code-from) in
+      let w = asked .at 0 0 (main .code-from) .entering refl in
       record {
         frames = (
           record {
@@ -33,15 +33,15 @@ module _ (p : Program) (c : Claim) (formed : Formed p) (asked : Asked p c) where
             masks = record {
               registers-in = λ r l.
                   replicate-at (λ (v : Value). Lies p c [] v (registerAt 0 0 r)) (registers p 0) null r
-                  (w .1 .0 refl .0 r (omega (arith, formed .main-arguments)));
-              result-in = w .1 .0 refl .1;
+                  (w .0 r (omega (arith, formed .main-arguments)));
+              result-in = w .1;
             };
           },
           tt,
           tt,
         );
         objects = λ o l. absurd (omega arith);
-        statics = λ x l. replicate-at (λ (v : Value). Lies p c [] v (staticOf x)) (p .statics) null x (w .0 refl .1 x l);
+        statics = λ x l. replicate-at (λ (v : Value). Lies p c [] v (staticOf x)) (p .statics) null x (asked .memory .1 x l);
         pending = tt;
       }
 

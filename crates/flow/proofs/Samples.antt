@@ -41,17 +41,17 @@ alike n l (staticOf x) = mask n
 alike n l (returnedBy m) = mask n
 alike n l (leaving m) = mask l
 
--- zero everywhere, and nothing leaves a method
+-- zero everywhere, and class 2 leaves a method: method 3 throws zero
 abbrev pub plain : Claim
-plain = alike zeros 0
+plain = alike zeros 4
 
 -- all bits allowed in a program of k classes
 abbrev pub allBits : ℕ → Claim
 allBits k = alike (numbers + (2 ^ k - 1)) (2 ^ k - 1)
 
--- of five, as all programs below have
+-- of seven, as all programs below have
 abbrev pub full : Claim
-full = allBits 5
+full = allBits 7
 
 -- a number of its own for each slot whose numbers are bytes
 abbrev slotNumber : Slot → ℕ
@@ -90,17 +90,17 @@ abbrev pub allRight : List Row → Bool
 allRight [] = true
 allRight (r ∷ rs) = same (verdict (r .program) (r .claim)) (r .answer) && allRight rs
 
--- ---- programs of five classes: class 2 is below 1, Throwable; class 4 is below 3. Class 3 has field 0, and class 4 field 1
--- besides. Two statics
+-- ---- programs of seven classes: 2, 3 and 4 are below 1, Throwable; class 6 is below 5. Class 5 has field 0, and class 6 field
+-- 1 besides. Two statics
 
--- method 0, of two registers, does what is given, then returns. Name 7 with two arguments is method 1 in class 3, which returns
--- the second, and method 2 in class 4. Method 3 throws its argument
+-- method 0, of two registers, does what is given, then returns. Name 7 with two arguments is method 1 in class 5, which returns
+-- the second, and method 2 in class 6. Method 3 throws its argument
 abbrev pub calling : List Instruction → List ℕ → Program
 calling code handlers =
     classes
     (method 0 0 1 2 0 (code ++ (ReturnVoid ∷ [])) handlers
-    ∷ method 3 7 0 3 2 (Return 2 ∷ []) []
-    ∷ method 4 7 0 2 2 (ReturnVoid ∷ []) []
+    ∷ method 5 7 0 3 2 (Return 2 ∷ []) []
+    ∷ method 6 7 0 2 2 (ReturnVoid ∷ []) []
     ∷ method 0 3 1 2 1 (Throw 1 ∷ []) []
     ∷ [])
 
@@ -113,7 +113,7 @@ abbrev pub allInstructions : Program
 allInstructions =
     classes
     (method 0 0 1 4 0
-    (NewInstance 0 4
+    (NewInstance 0 6
     ∷ Const 1 (pos 5)
     ∷ Iput 1 0 0
     ∷ Iget 2 0 1
@@ -134,7 +134,7 @@ allInstructions =
     ∷ ReturnVoid
     ∷ [])
     (handler 6 7 14 0 ∷ handler 12 13 14 1 ∷ [])
-    ∷ method 3 7 0 3 2 (Return 2 ∷ []) []
-    ∷ method 4 7 0 2 2 (Move 1 0 ∷ ReturnVoid ∷ []) []
+    ∷ method 5 7 0 3 2 (Return 2 ∷ []) []
+    ∷ method 6 7 0 2 2 (Move 1 0 ∷ ReturnVoid ∷ []) []
     ∷ method 0 3 1 2 1 (NewInstance 0 2 ∷ Throw 0 ∷ MoveException 1 ∷ Throw 1 ∷ []) (handler 1 2 2 2 ∷ [])
     ∷ [])

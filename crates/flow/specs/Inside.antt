@@ -6,29 +6,30 @@ use mathlib.Core.Bool.{true}
 use mathlib.Core.List.{List, [], _∷_}
 use Prim.Native.Nat.{ℕ, _<_}
 use lib.ListN.{length, getD}
-use Rattle.instruction.specs.declared.Instruction.the-variants.{Throw}
-use Rattle.mask.specs.Mask.{has}
 use Rattle.program.specs.Program.{Program, classCount, codeLength, instructionAt}
 use Rattle.program.specs.Lists.{Every}
-use Rattle.search.specs.Search.{below}
 use Rattle.machine.specs.declared.Value.{Value}
 use Rattle.machine.specs.State.{Frame, Object, Status, running, raised, done, uncaught, failed, State, null, noObject}
-use Rattle.flow.specs.Claim.{registerAt, staticOf, leaving, Slot, Claim, LiesIn}
-use Rattle.flow.specs.Flows.{Holds}
-use Rattle.flow.specs.Rules.{rulesAt}
+use Rattle.flow.specs.Claim.{staticOf, Slot, Claim, LiesIn}
+use Rattle.flow.specs.Flows.{Flows, Holds}
+use Rattle.flow.specs.Rules.{initialMemory, entry, raisedBy, rulesOf}
 use Rattle.flow.specs.Calls.{CallAt}
 use Rattle.flow.specs.Covered.{FrameCovered, ObjectCovered}
 
 module _ (p : Program) (c : Claim) where
-  -- all that the rules ask at every address
-  abbrev pub Asked : Type 0
-  Asked = (m pc : ℕ) → pc < codeLength p m → Every (λ r. Holds c (r .flows)) (rulesAt p m pc)
+  -- what the rules ask at an address
+  pub record AskedAt (m pc : ℕ) : Type 0 where
+    pub entering : pc ≡ 0 → Holds c (entry p m)
+    pub rules : Every (λ r. Holds c (r .flows)) (rulesOf p m pc (instructionAt p m pc))
 
-  -- an exception of class k may be pending there
-  pub data RaisedAt (m pc k : ℕ) : Type 0 where
-    by-throw : (a : ℕ) → instructionAt p m pc ≡ Throw a → below p k 1 ≡ true → has (c (registerAt m pc a)) k ≡ true
-        → RaisedAt m pc k
-    by-call : (q : ℕ) → CallAt p c m pc q → has (c (leaving q)) k ≡ true → RaisedAt m pc k
+  -- all that the rules ask
+  pub record Asked : Type 0 where
+    pub memory : Holds c (initialMemory p)
+    pub at : (m pc : ℕ) → pc < codeLength p m → AskedAt m pc
+
+  -- an exception of class k may be pending there: whatever is asked of the classes raised there is asked of k
+  abbrev pub RaisedAt : ℕ → ℕ → ℕ → Type 0
+  RaisedAt m pc k = (f : ℕ → Flows) → Holds c (raisedBy p m pc (instructionAt p m pc) f) → Holds c (f k)
 
   -- a value lies in a slot's mask, with these objects
   abbrev pub Lies : List Object → Value → Slot → Type 0

@@ -1,17 +1,21 @@
 -- The flow rules: what is asked at each address, one clause an instruction. They follow source documents 002 (section 4, one
 -- abstract object a class) and 004 (section 4.2 and appendix E). Document 01 differs from them, and decides: registers, fields and
 -- statics start at zero (rules 0 and 1); binop and unop give both numbers' bits; a receiver gives its callee only the class bit that
--- leads there, and not its mask; return-void returns zero; a cast lets on only what passes it; a fault raises no exception.
--- Definitions only.
+-- leads there, and not its mask; return-void returns zero; a cast lets on only what passes it; null used, division by zero and a
+-- failed cast raise classes 2, 3 and 4 where a mask has the bits for it (document 02, note 2), while 004 tries a null exception at
+-- every virtual call; other faults, a method that is not found among them, raise no exception. Definitions only.
 use mathlib.Core.Path.{_≡_}
 use mathlib.Core.Bool.{not, _&&_}
 use mathlib.Core.List.{List, [], _∷_}
 use Prim.Native.Nat.{ℕ, suc, _+_, _-_, _<_}
-use lib.Dec.{eqb}
+use lib.Dec.{eqb, ltb}
+use Rattle.instruction.specs.declared.Operation.{Operation}
 use Rattle.instruction.specs.declared.Instruction.{Instruction}
 use Rattle.instruction.specs.declared.Instruction.the-variants.{Nop, Move, Const, Goto, If, IfZero, Binop, Unop, NewInstance, Iget, Iput, Sget, Sput, InvokeVirtual, InvokeStatic, MoveResult, MoveException, Return, ReturnVoid, Throw, InstanceOf, CheckCast}
 use Rattle.mask.specs.Mask.{zeroBit, otherBit}
-use Rattle.program.specs.Program.{Program, classCount, fieldCount, methodCount, registers, arguments, codeLength, instructionAt, handlerTarget}
+use Rattle.arithmetic.specs.Arithmetic.{divides}
+use Rattle.program.specs.Program.{Program, throwableClass, nullClass, arithmeticClass, castClass, classCount, fieldCount, methodCount}
+use Rattle.program.specs.Program.{registers, arguments, codeLength, instructionAt, handlerTarget}
 use Rattle.program.specs.Lists.{Every}
 use Rattle.search.specs.declared.Callee.the-variants.{Found}
 use Rattle.search.specs.Search.{below, hasField, virtualCallee, handlerFor}
@@ -122,11 +126,64 @@ module _ (p : Program) (m pc : ℕ) where
 
   -- "for each Throwable class in a throw's mask"
   abbrev pub thrownClasses : ℕ → (ℕ → Flows) → Flows
-  thrownClasses a f = classesIn a (λ k. when (below p k 1) (f k))
+  thrownClasses a f = classesIn a (λ k. when (below p k throwableClass) (f k))
 
   -- "and each class leaving a callee"
   abbrev pub leavingClasses : ℕ → (ℕ → Flows) → Flows
   leavingClasses q f = each (classCount p) (λ k. given k (leaving q) (f k))
+
+  -- no class is asked
+  abbrev pub noClass : (ℕ → Flows) → Flows
+  noClass f = each 0 f
+
+  -- a class that the instruction itself raises, where the program has it; every program that the reader takes does
+  abbrev pub own : ℕ → (ℕ → Flows) → Flows
+  own k f = when (ltb k (classCount p)) (f k)
+
+  -- "class 2 where a used object (receiver, iget, iput, throw) has bit 62"
+  abbrev pub nullIn : ℕ → (ℕ → Flows) → Flows
+  nullIn b f = given zeroBit (here b) (own nullClass f)
+
+  -- "3 where a divisor has bit 62"
+  abbrev pub zeroDivisor : Operation → ℕ → (ℕ → Flows) → Flows
+  zeroDivisor o c f = when (divides o) (given zeroBit (here c) (own arithmeticClass f))
+
+  -- "4 where a cast mask has a class not at or below the named one"
+  abbrev pub failedCast : ℕ → ℕ → (ℕ → Flows) → Flows
+  failedCast a k f = classesIn a (λ j. when (not (below p j k)) (own castClass f))
+
+  -- the classes that are raised at an instruction, by itself or by a callee, each asked f
+  abbrev pub raisedBy : Instruction → (ℕ → Flows) → Flows
+  raisedBy Nop f = noClass f
+  raisedBy (Move a b) f = noClass f
+  raisedBy (Const a d) f = noClass f
+  raisedBy (Goto d) f = noClass f
+  raisedBy (If c a b d) f = noClass f
+  raisedBy (IfZero c a d) f = noClass f
+  raisedBy (Binop o a b c) f = zeroDivisor o c f
+  raisedBy (Unop o a b) f = noClass f
+  raisedBy (NewInstance a k) f = noClass f
+  raisedBy (Iget a b x) f = nullIn b f
+  raisedBy (Iput a b x) f = nullIn b f
+  raisedBy (Sget a x) f = noClass f
+  raisedBy (Sput a x) f = noClass f
+  raisedBy (InvokeVirtual n b c) f = nullIn c f & receivers n b c (λ k q. leavingClasses q f)
+  raisedBy (InvokeStatic q b c) f = leavingClasses q f
+  raisedBy (MoveResult a) f = noClass f
+  raisedBy (MoveException a) f = noClass f
+  raisedBy (Return a) f = noClass f
+  raisedBy ReturnVoid f = noClass f
+  raisedBy (Throw a) f = nullIn a f & thrownClasses a f
+  raisedBy (InstanceOf a b k) f = noClass f
+  raisedBy (CheckCast a k) f = failedCast a k f
+
+  -- "9, 10: for each Throwable class in a throw's mask, and each class leaving a callee"; "Rules 9 and 10 also take class 2"
+  abbrev pub raising : Instruction → List Rule
+  raising i = rule 9 (raisedBy i intoHandler) ∷ rule 10 (raisedBy i intoLeaving) ∷ []
+
+  -- what is written, where the instruction may raise an exception
+  abbrev pub writesOr : ℕ → Flows → Instruction → List Rule
+  writesOr a f i = rule 2 (onwardExcept a next) ∷ rule 4 f ∷ raising i
 
   -- rules 2 to 10 at an instruction
   abbrev pub rulesOf : Instruction → List Rule
@@ -138,39 +195,35 @@ module _ (p : Program) (m pc : ℕ) where
   rulesOf (If c a b d) = toNext ∷ toTarget d ∷ []
   rulesOf (IfZero c a d) = toNext ∷ toTarget d ∷ []
   -- "binop and unop: bits 62 and 63 if every operand has one of them"
-  rulesOf (Binop o a b c) = writes a (numeric (here b) (numeric (here c) (numbersInto a)))
+  rulesOf (Binop o a b c) = writesOr a (numeric (here b) (numeric (here c) (numbersInto a))) (Binop o a b c)
   rulesOf (Unop o a b) = writes a (numeric (here b) (numbersInto a))
   rulesOf (NewInstance a k) = writes a (k ∈ after a)
   -- "iget: the field's mask for each class in b that has it"
-  rulesOf (Iget a b x) = writes a (classesWithField b x (λ k. fieldOf k x ⊆ after a))
+  rulesOf (Iget a b x) = writesOr a (classesWithField b x (λ k. fieldOf k x ⊆ after a)) (Iget a b x)
   -- "5: iput into each such class's field; sput into the static"
-  rulesOf (Iput a b x) = toNext ∷ rule 5 (classesWithField b x (λ k. here a ⊆ fieldOf k x)) ∷ []
+  rulesOf (Iput a b x) = toNext ∷ rule 5 (classesWithField b x (λ k. here a ⊆ fieldOf k x)) ∷ raising (Iput a b x)
   rulesOf (Sget a x) = writes a (staticOf x ⊆ after a)
   rulesOf (Sput a x) = toNext ∷ rule 5 (here a ⊆ staticOf x) ∷ []
   rulesOf (InvokeVirtual n b c) =
       afterCall
       ∷ rule 6 (receivers n b c (λ k q. receiverInto k q & each (b - 1) (λ i. argumentInto c q (suc i))))
       ∷ rule 7 (receivers n b c (λ k. returnedInto))
-      ∷ rule 9 (receivers n b c (λ k q. leavingClasses q intoHandler))
-      ∷ rule 10 (receivers n b c (λ k q. leavingClasses q intoLeaving))
-      ∷ []
+      ∷ raising (InvokeVirtual n b c)
   rulesOf (InvokeStatic q b c) =
       afterCall
       -- with its callee named as a virtual call's are, for the call list
       ∷ rule 6 (found (Found q) (λ callee. each b (argumentInto c callee)))
       ∷ rule 7 (returnedInto q)
-      ∷ rule 9 (leavingClasses q intoHandler)
-      ∷ rule 10 (leavingClasses q intoLeaving)
-      ∷ []
+      ∷ raising (InvokeStatic q b c)
   rulesOf (MoveResult a) = writes a (resultAt m pc ⊆ after a)
   rulesOf (MoveException a) = writes a (resultAt m pc ⊆ after a)
   -- "8: return's mask, or bit 62 for return-void, into returned"; "return, return-void and throw have neither"
   rulesOf (Return a) = rule 8 (here a ⊆ returnedBy m) ∷ []
   rulesOf ReturnVoid = rule 8 (zeroBit ∈ returnedBy m) ∷ []
-  rulesOf (Throw a) = rule 9 (thrownClasses a intoHandler) ∷ rule 10 (thrownClasses a intoLeaving) ∷ []
+  rulesOf (Throw a) = raising (Throw a)
   -- "instance-of: 62 and 63"
   rulesOf (InstanceOf a b k) = writes a (numbersInto a)
-  rulesOf (CheckCast a k) = writes a (castInto a k)
+  rulesOf (CheckCast a k) = writesOr a (castInto a k) (CheckCast a k)
 
   -- "Rules, all asked at every address"; rule 0 is asked, and reported, at 00 00
   abbrev pub rulesAt : List Rule

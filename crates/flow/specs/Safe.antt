@@ -8,7 +8,8 @@ use Rattle.program.specs.Program.{Program, classCount}
 use Rattle.search.specs.Search.{hasField}
 use Rattle.machine.specs.declared.Value.the-variants.{Reference}
 use Rattle.machine.specs.declared.Effect.{Effect}
-use Rattle.machine.specs.declared.Effect.the-variants.{Next, Jump, Write, Load, LoadStatic, Make, Store, StoreStatic, Call, Exit, Raise, Fail}
+use Rattle.machine.specs.declared.Effect.the-variants.{Next, Jump, Write, Load, LoadStatic, Make, Store, StoreStatic, Call, Exit, Raise}
+use Rattle.machine.specs.declared.Effect.the-variants.{RaiseNew, Fail}
 use Rattle.machine.specs.State.{Frame, Object, State, noObject, objectAt, cell, static}
 use Rattle.machine.specs.Run.{moved, wrote, entered}
 use Rattle.flow.specs.Claim.{fieldOf, staticOf, returnedBy, Claim}
@@ -35,4 +36,5 @@ module _ (p : Program) (c : Claim) where
   SafeEffect s f (Call m a) = CallAt p c (f .method) (f .address) m × FrameIn p c (s .objects) (entered p m a f)
   SafeEffect s f (Exit v) = Lies p c (s .objects) v (returnedBy (f .method))
   SafeEffect s f (Raise o) = RaisedAt p c (f .method) (f .address) (objectAt s o .class)
+  SafeEffect s f (RaiseNew k) = (k < classCount p) × RaisedAt p c (f .method) (f .address) k
   SafeEffect s f (Fail e) = Unit {0}

@@ -41,21 +41,21 @@ countsOf p =
       handlers = handlerCount p (methodCount p - 1);
     }
 
--- "Frames stand in this order", "2 to 60" classes, "0 to 16" fields, "0 to 16" statics, "1 to 16 methods", "Each is followed
--- by 1 to 32 instructions, then 0 to 8 handlers": whether a frame may stand after these. That there are at most 16 methods is
--- asked again where the last method's number says the place of a frame
+-- "Frames stand in this order", "2 to 60" classes and "under five classes is 4" (document 02, note 2), "0 to 16" fields, "0 to 16"
+-- statics, "1 to 16 methods", "Each is followed by 1 to 32 instructions, then 0 to 8 handlers": whether a frame may stand after
+-- these. That there are at most 16 methods is asked again where the last method's number says the place of a frame
 abbrev pub mayStand : Counts → Kind → Test
 mayStand n Class = under (n .classes) 60 & same (n .fields) 0 & same (n .statics) 0 & same (n .methods) 0
-mayStand n Field = most 2 (n .classes) & under (n .fields) 16 & same (n .statics) 0 & same (n .methods) 0
-mayStand n Static = most 2 (n .classes) & under (n .statics) 16 & same (n .methods) 0
-mayStand n Header = most 2 (n .classes) & under (n .methods) 16 & given (ltb 0 (n .methods)) (under 0 (n .code))
+mayStand n Field = most 5 (n .classes) & under (n .fields) 16 & same (n .statics) 0 & same (n .methods) 0
+mayStand n Static = most 5 (n .classes) & under (n .statics) 16 & same (n .methods) 0
+mayStand n Header = most 5 (n .classes) & under (n .methods) 16 & given (ltb 0 (n .methods)) (under 0 (n .code))
 mayStand n Code = under 0 (n .methods) & most (n .methods) 16 & under (n .code) 32 & same (n .handlers) 0
 mayStand n Handler = under 0 (n .methods) & most (n .methods) 16 & under 0 (n .code) & under (n .handlers) 8
 mayStand n Unknown = never true
 
 -- whether the text may end after these
 abbrev pub mayEnd : Counts → Test
-mayEnd n = most 2 (n .classes) & under 0 (n .methods) & under 0 (n .code)
+mayEnd n = most 5 (n .classes) & under 0 (n .methods) & under 0 (n .code)
 
 -- the last method with one instruction or handler more
 abbrev pub withCode : Method → ℕ → Method

@@ -82,12 +82,12 @@ fn may_stand(n: Counts, k: Kind) -> bool
             both(n.fields == 0, both(n.statics == 0, n.methods == 0)),
         ),
         Kind::Field => both(
-            2 <= n.classes,
+            5 <= n.classes,
             both(n.fields < 16, both(n.statics == 0, n.methods == 0)),
         ),
-        Kind::Static => both(2 <= n.classes, both(n.statics < 16, n.methods == 0)),
+        Kind::Static => both(5 <= n.classes, both(n.statics < 16, n.methods == 0)),
         Kind::Header => both(
-            2 <= n.classes,
+            5 <= n.classes,
             both(n.methods < 16, implies(0 < n.methods, 0 < n.code)),
         ),
         Kind::Handler => both(
@@ -106,7 +106,7 @@ fn may_stand(n: Counts, k: Kind) -> bool
 pub fn may_end(n: Counts) -> bool
     ensures value { λ r. ⌜ r ≡ passes (mayEnd n) ⌝ }
 {
-    both(2 <= n.classes, both(0 < n.methods, 0 < n.code))
+    both(5 <= n.classes, both(0 < n.methods, 0 < n.code))
 }
 
 // One frame more.

@@ -6,16 +6,17 @@ use mathlib.Core.Option.{none}
 use Prim.Native.Nat.{ℕ, suc, _+_}
 use native.Mathlib.Omega.{arith}
 use lib.ListN.{length, length-set}
-use borrow.Author.Tests.{lt-ltb}
-use Rattle.program.specs.Program.{Program, codeLength}
+use Rattle.program.specs.Program.{Program}
 use Rattle.machine.specs.declared.Effect.{Effect}
-use Rattle.machine.specs.declared.Effect.the-variants.{Next, Jump, Write, Load, LoadStatic, Make, Store, StoreStatic, Call, Exit, Raise, Fail}
-use Rattle.machine.specs.State.{Frame, Status, running, State, objectAt, cell, static}
+use Rattle.machine.specs.declared.Effect.the-variants.{Next, Jump, Write, Load, LoadStatic, Make, Store, StoreStatic, Call, Exit, Raise}
+use Rattle.machine.specs.declared.Effect.the-variants.{RaiseNew, Fail}
+use Rattle.machine.specs.State.{Frame, running, State, objectAt, cell, static}
 use Rattle.machine.specs.Run.{moved, stored, withFrames, apply, step}
 use Rattle.machine.specs.Shaped.{Fitting}
 use Rattle.machine.proofs.Continues.{effectAt, step-running}
 use Rattle.turn.specs.declared.Tally.{Tally}
-use Rattle.turn.specs.Stop.{room, stopBy, stopOf}
+use Rattle.turn.specs.Stop.{room, stopOf}
+use Rattle.turn.proofs.Stops.{running-stop}
 use Rattle.cells.specs.Cells.{zeroValue, frameOf, objectsOf, staticsOf}
 use Rattle.cells.specs.Reads as reads
 use Rattle.cells.proofs.Values.{add-one}
@@ -34,16 +35,9 @@ module _ {p : Program} {s : State} {before : Lent} {k : Tally} {now : Lent} {f :
     (h : Ready p s before k now f rest) where
   -- ---- the step
 
-  running-stop : stopOf p s ≡ room s (effectAt p s f)
-  unfolding stopOf
-  running-stop =
-      ap (λ (w : Status). stopBy p s w (s .frames)) (h .here .status)
-      ∙ ap (stopBy p s running) (h .here .frames)
-      ∙ rw (lt-ltb (f .address) (codeLength p (f .method)) (h .here .inside)) refl
-
   module _ (e : Effect) (is : effectAt p s f ≡ e) where
     pub stop-is : stopOf p s ≡ room s e
-    stop-is = running-stop ∙ ap (room s) is
+    stop-is = running-stop p s f rest (h .here) ∙ ap (room s) is
 
     pub step-is : step p s ≡ apply p s f rest e
     step-is = step-running p s f rest (h .here) ∙ ap (apply p s f rest) is
@@ -134,4 +128,5 @@ module _ {p : Program} {s : State} {before : Lent} {k : Tally} {now : Lent} {f :
   gone (Call m c) is fits looks = absurd looks
   gone (Exit v) is fits looks = absurd looks
   gone (Raise o) is fits looks = absurd looks
-  gone (Fail e) is fits looks = (unchanged h (workBy (Fail e)) refl refl refl refl, is)
+  gone (RaiseNew k) is fits looks = ((unchanged h (workBy (RaiseNew k)) refl refl refl refl, refl), is)
+  gone (Fail e) is fits looks = ((unchanged h (workBy (Fail e)) refl refl refl refl, refl), is)

@@ -19,7 +19,8 @@ use Rattle.search.specs.Search.{below, hasField}
 use Rattle.machine.specs.declared.Value.{Value}
 use Rattle.machine.specs.declared.Value.the-variants.{Number, Reference}
 use Rattle.machine.specs.declared.Effect.{Effect}
-use Rattle.machine.specs.declared.Effect.the-variants.{Next, Jump, Write, Load, LoadStatic, Make, Store, StoreStatic, Call, Exit, Raise, Fail}
+use Rattle.machine.specs.declared.Effect.the-variants.{Next, Jump, Write, Load, LoadStatic, Make, Store, StoreStatic, Call, Exit, Raise}
+use Rattle.machine.specs.declared.Effect.the-variants.{RaiseNew, Fail}
 use Rattle.machine.specs.State.{null}
 use Rattle.machine.specs.Decide.{notObject, computedInto, binop, unop, compared, branch, getField, putField, instanceOf, checkCast}
 use Rattle.instruction.proofs.Flags.{pick-cases}
@@ -40,6 +41,7 @@ Looks x t (StoreStatic c v) = Unit {0}
 Looks x t (Call m c) = ⊥
 Looks x t (Exit v) = ⊥
 Looks x t (Raise o) = ⊥
+Looks x t (RaiseNew k) = Unit {0}
 Looks x t (Fail e) = Unit {0}
 
 module _ (p : Program) (x : Value) (t : Site) (k : ℕ) where

@@ -127,7 +127,7 @@ module _ (t : List ℕ) {s : State} {before : Lent} {k : Tally} {now : Lent} {f 
       tested 11 (sputDone t now at) (fromLeaving t now at)
       (λ e. arm (λ s. Sput (aOf (s .word)) (bOf (s .word))) sput-stays (ap leavesBy e) (sput-chosen (at .word) e))
       (λ e11.
-      pick-cases Stays (leavesOf at) (done (leftAt at) now) (fromClass t now at) (λ e. (refl, e))
+      pick-cases Stays (leavesOf at) (done (leftAt at) now) (fromClass t now at) (λ e. ((refl, refl), e))
       (λ stays.
       pick-cases Stays (isClass at) (classDone t now at) (plainDone t now at)
       (λ e. arm (λ s. classedOf (s .word)) class-stays stays (class-chosen (at .word) e))

@@ -1,5 +1,5 @@
 -- An effect that fits leaves a shaped state shaped, and so does the unwinding of a pending object. Assumes nothing.
-use mathlib.Core.Path.{_≡_}
+use mathlib.Core.Path.{_≡_, refl}
 use mathlib.Core.List.{List, [], _∷_, _++_}
 use Prim.Native.Nat.{ℕ, suc, _+_, _≤_, _<_}
 use native.Mathlib.Omega.{arith}
@@ -10,7 +10,8 @@ use Rattle.search.specs.declared.Handling.the-variants.{Caught, Uncaught}
 use Rattle.machine.specs.declared.Value.{Value}
 use Rattle.machine.specs.declared.Value.the-variants.{Reference}
 use Rattle.machine.specs.declared.Effect.{Effect}
-use Rattle.machine.specs.declared.Effect.the-variants.{Next, Jump, Write, Load, LoadStatic, Make, Store, StoreStatic, Call, Exit, Raise, Fail}
+use Rattle.machine.specs.declared.Effect.the-variants.{Next, Jump, Write, Load, LoadStatic, Make, Store, StoreStatic, Call, Exit}
+use Rattle.machine.specs.declared.Effect.the-variants.{Raise, RaiseNew, Fail}
 use Rattle.machine.specs.State.{Frame, Object, Status, running, raised, done, uncaught, failed, State, null, noObject, objectAt, cell, static}
 use Rattle.machine.specs.Run.{moved, wrote, fresh, stored, returned, apply, dropped, unwound}
 use Rattle.program.specs.Lists.{Every}
@@ -18,6 +19,10 @@ use Rattle.machine.specs.Shaped.{Known, KnownStatus, ShapedFrame, Shaped
 use Rattle.machine.proofs.Elements.{set-at, append-at}
 use Rattle.machine.proofs.Parts.{known-more, frames-more, object-more, moved-shaped, resumed-shaped, wrote-shaped, entered-shaped, fresh-shaped, stored-shaped}
 use Rattle.machine.proofs.Fitting.{top-shaped}
+
+-- a step that raises leaves the frames as they were
+pub raise-keeps : (p : Program) (s : State) (f : Frame) (rest : List Frame) (k : ℕ) → apply p s f rest (RaiseNew k) .frames ≡ s .frames
+raise-keeps p s f rest k = refl
 
 module _ (p : Program) (s : State) (shaped : Shaped p s) where
   -- other frames and another status
@@ -30,14 +35,14 @@ module _ (p : Program) (s : State) (shaped : Shaped p s) where
   with-objects : (fs : List Frame) (os : List Object) → length (s .objects) ≤ length os
       → Every (ShapedFrame p (length os)) fs
       → ((o : ℕ) → o < length os → ShapedObject p (length os) (getD os o noObject))
-      → Shaped p (record { frames = fs; objects = os; statics = s .statics; status = running })
-  with-objects fs os l h k =
+      → (e : Status) → KnownStatus (length os) e → Shaped p (record { frames = fs; objects = os; statics = s .statics; status = e })
+  with-objects fs os l h k e i =
       record {
         frames = h;
         objects = k;
         size = shaped .size;
         statics = λ x. known-more p (length (s .objects)) (length os) l (static s x) (shaped .statics x);
-        status = tt;
+        status = i;
       }
 
   returned-shaped : (v : Value) (rest : List Frame) → Known (length (s .objects)) v → Every (ShapedFrame p (length (s .objects))) rest → Shaped p (returned s v rest)
@@ -61,6 +66,17 @@ module _ (p : Program) (s : State) (shaped : Shaped p s) where
     on : (to : ℕ) → Every (ShapedFrame p (length (s .objects))) (moved f to ∷ rest)
     on to = (moved-shaped p _ f to (h .0), h .1)
 
+    -- one object more: the objects before are shaped with it
+    more-objects : (k o : ℕ) → o < length (s .objects ++ fresh p k ∷ [])
+        → ShapedObject p (length (s .objects ++ fresh p k ∷ [])) (getD (s .objects ++ fresh p k ∷ []) o noObject)
+    more-objects k o =
+        let n = length (s .objects) in
+        let os = s .objects ++ fresh p k ∷ [] in
+        let one : length os ≡ n + 1 = length-append (s .objects) (fresh p k ∷ []) in
+        let l : n ≤ length os = omega arith in
+        append-at (ShapedObject p (length os)) (s .objects) (fresh p k) noObject o (fresh-shaped p (length os) k)
+        (λ m. object-more p n (length os) l (objectAt s o) (shaped .objects o m))
+
     make-shaped : (a k : ℕ) → Shaped p (apply p s f rest (Make a k))
     make-shaped a k =
         let n = length (s .objects) in
@@ -68,9 +84,15 @@ module _ (p : Program) (s : State) (shaped : Shaped p s) where
         let one : length os ≡ n + 1 = length-append (s .objects) (fresh p k ∷ []) in
         let l : n ≤ length os = omega arith in
         let r = frames-more p n (length os) l (f ∷ rest) h in
-        with-objects _ os l (wrote-shaped p (length os) f a (Reference n) (omega arith) (r .0), r .1)
-        (λ o. append-at (ShapedObject p (length os)) (s .objects) (fresh p k) noObject o (fresh-shaped p (length os) k)
-        (λ m. object-more p n (length os) l (objectAt s o) (shaped .objects o m)))
+        with-objects _ os l (wrote-shaped p (length os) f a (Reference n) (omega arith) (r .0), r .1) (more-objects k) running tt
+
+    raise-shaped : (k : ℕ) → Shaped p (apply p s f rest (RaiseNew k))
+    raise-shaped k =
+        let n = length (s .objects) in
+        let os = s .objects ++ fresh p k ∷ [] in
+        let one : length os ≡ n + 1 = length-append (s .objects) (fresh p k ∷ []) in
+        let l : n ≤ length os = omega arith in
+        with-objects (s .frames) os l (frames-more p n (length os) l (s .frames) (shaped .frames)) (more-objects k) (raised n) (omega arith)
 
     store-shaped : (o x : ℕ) (v : Value) → o < length (s .objects) → Known (length (s .objects)) v → Shaped p (apply p s f rest (Store o x v))
     store-shaped o x v m k =
@@ -83,6 +105,7 @@ module _ (p : Program) (s : State) (shaped : Shaped p s) where
         object-more p n (length os) l (getD os j noObject)
         (set-at (ShapedObject p n) (s .objects) o _ noObject j (stored-shaped p n (objectAt s o) x v k (shaped .objects o m))
         (shaped .objects j (omega arith))))
+        running tt
 
     applied : (e : Effect) → Fitting p s f e → Shaped p (apply p s f rest e)
     applied Next t = with-frames _ running (on _) tt
@@ -103,6 +126,7 @@ module _ (p : Program) (s : State) (shaped : Shaped p s) where
     applied (Call m c) t = with-frames _ running (entered-shaped p _ f m c (h .0), h) tt
     applied (Exit v) t = returned-shaped v rest t (h .1)
     applied (Raise o) t = with-frames _ (raised o) (shaped .frames) t
+    applied (RaiseNew k) t = raise-shaped k
     applied (Fail e) t = with-frames _ (failed e) (shaped .frames) tt
 
 pub applied-shaped : (p : Program) → (s : State) → Shaped p s → (f : Frame) (rest : List Frame) → s .frames ≡ f ∷ rest → (e : Effect)

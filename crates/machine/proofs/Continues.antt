@@ -13,7 +13,8 @@ use Rattle.search.specs.declared.Handling.the-variants.{Caught, Uncaught}
 use Rattle.search.specs.Search.{handlerFor}
 use Rattle.machine.specs.declared.Fault.{Fault}
 use Rattle.machine.specs.declared.Effect.{Effect}
-use Rattle.machine.specs.declared.Effect.the-variants.{Next, Jump, Write, Load, LoadStatic, Make, Store, StoreStatic, Call, Exit, Raise, Fail}
+use Rattle.machine.specs.declared.Effect.the-variants.{Next, Jump, Write, Load, LoadStatic, Make, Store, StoreStatic, Call, Exit}
+use Rattle.machine.specs.declared.Effect.the-variants.{Raise, RaiseNew, Fail}
 use Rattle.machine.specs.State.{Frame, Status, running, raised, done, uncaught, failed, State, objectAt}
 use Rattle.machine.specs.Decide.{decide}
 use Rattle.machine.specs.Run.{withStatus, apply, unwound, stepBy, step, run}
@@ -110,6 +111,7 @@ module _ (p : Program) where
     fault-apply f [] (Exit v) h = absurd h
     fault-apply f (g ∷ rest) (Exit v) h = absurd h
     fault-apply f rest (Raise o) h = absurd h
+    fault-apply f rest (RaiseNew k) h = absurd h
     fault-apply f rest (Fail e) h = refl
 
     fault-unwound : (f : Frame) (rest : List Frame) (o : ℕ) (g : Handling) → Faulty (unwound p s f rest o g .status) → ⊥

@@ -22,7 +22,7 @@ use Rattle.operands.specs.Names.{named}
 use Rattle.arithmetic.specs.declared.Computed.{Computed}
 use Rattle.arithmetic.specs.declared.Computed.the-variants.{Number as Result, ByZero}
 use Rattle.arithmetic.specs.Arithmetic.{isZero, computed, inOrder}
-use Rattle.program.specs.Program.{Program, fieldCount, methodCount, registers, arguments, codeLength, instructionAt}
+use Rattle.program.specs.Program.{Program, classCount, fieldCount, methodCount, registers, arguments, codeLength, instructionAt}
 use Rattle.values.specs.Values.{limitsOf, callTest}
 use Rattle.search.specs.declared.Callee.{Callee}
 use Rattle.search.specs.declared.Callee.the-variants.{Found, Missing}
@@ -47,13 +47,13 @@ method-exists p m pc l =
     let none : pc < 0 = rw List·getD-eq-default at l in
     absurd (omega arith))
 
-module _ (p : Program) (s : State) (f : Frame) where
+module _ (p : Program) (five : 5 ≤ classCount p) (s : State) (f : Frame) where
   -- one of two effects that both fit
   either : (t : Bool) (d e : Effect) → Fitting p s f d → Fitting p s f e → Fitting p s f (pick t d e)
   either t d e h k = pick-cases (Fitting p s f) t d e (λ _. h) (λ _. k)
 
   not-object : (z : ℤ) → Fitting p s f (notObject z)
-  not-object z = either (isZero z) _ _ tt tt
+  not-object z = either (isZero z) _ _ (omega arith) tt
 
   compared-fits : (c : Condition) (same : Bool) (d : ℕ) → d < codeLength p (f .method) → Fitting p s f (compared c same d)
   compared-fits Eq same d l = either same _ _ l tt
@@ -90,7 +90,7 @@ module _ (p : Program) (s : State) (f : Frame) where
   module _ (a : ℕ) (l : a < length (f .registers)) where
     computed-fits : (r : Computed) → Fitting p s f (computedInto a r)
     computed-fits (Result z) = (l, tt)
-    computed-fits ByZero = tt
+    computed-fits ByZero = omega arith
 
     binop-fits : (o : Operation) (v w : Value) → Fitting p s f (binop a o v w)
     binop-fits o (Number x) (Number y) = computed-fits (computed o x y)
@@ -113,7 +113,7 @@ module _ (p : Program) (s : State) (f : Frame) where
 
     cast-fits : (k c : ℕ) (v : Value) → Known (length (s .objects)) v → Fitting p s f (checkCast p k a c v)
     cast-fits k c (Number z) h = either (isZero z) _ _ (l, tt) tt
-    cast-fits k c (Reference o) h = either (below p k c) _ _ (l, h) tt
+    cast-fits k c (Reference o) h = either (below p k c) _ _ (l, h) (omega arith)
 
   module _ (shaped : ShapedFrame p (length (s .objects)) f) (size : length (s .statics) ≡ p .statics) where
     -- a register, and a static, that the method may name
@@ -160,5 +160,6 @@ pub decided-fits : (p : Program) → Formed p → (s : State) → Shaped p s →
     → f .address < codeLength p (f .method) → Fitting p s f (decide p s f (instructionAt p (f .method) (f .address)))
 decided-fits p formed s shaped f rest e l =
     let method = formed .methods (f .method) (method-exists p (f .method) (f .address) l) in
-    instruction-fits p s f (top-shaped p s shaped f rest e .0) (shaped .size) (instructionAt p (f .method) (f .address))
+    instruction-fits p (formed .classes-from) s f (top-shaped p s shaped f rest e .0) (shaped .size)
+    (instructionAt p (f .method) (f .address))
     (method .names (f .address) l) (method .calls (f .address) l)

@@ -15,7 +15,8 @@ use Rattle.search.specs.declared.Handling.the-variants.{Caught, Uncaught}
 use Rattle.search.specs.Search.{virtualCallee}
 use Rattle.machine.specs.declared.Value.the-variants.{Reference}
 use Rattle.machine.specs.declared.Effect.{Effect}
-use Rattle.machine.specs.declared.Effect.the-variants.{Next, Jump, Write, Load, LoadStatic, Make, Store, StoreStatic, Call, Exit, Raise, Fail}
+use Rattle.machine.specs.declared.Effect.the-variants.{Next, Jump, Write, Load, LoadStatic, Make, Store, StoreStatic, Call, Exit}
+use Rattle.machine.specs.declared.Effect.the-variants.{Raise, RaiseNew, Fail}
 use Rattle.machine.specs.State.{Frame, Status, running, raised, done, uncaught, failed, State, register, objectAt, top}
 use Rattle.machine.specs.Decide.{decide}
 use Rattle.machine.specs.Run.{entered, withFrames, apply, dropped, unwound, step, run}
@@ -54,6 +55,7 @@ module _ (p : Program) (s : State) where
   longer-apply f [] (Exit v) here l = absurd (omega arith)
   longer-apply f (g ∷ rest) (Exit v) here l = absurd (omega arith)
   longer-apply f rest (Raise o) here l = absurd (omega (arith, ap length here))
+  longer-apply f rest (RaiseNew k) here l = absurd (omega (arith, ap length here))
   longer-apply f rest (Fail e) here l = absurd (omega (arith, ap length here))
 
   unwound-most : (f : Frame) (rest : List Frame) (o : ℕ) (h : Handling) → length (unwound p s f rest o h .frames) ≤ length (f ∷ rest)

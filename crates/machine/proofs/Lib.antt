@@ -14,3 +14,4 @@ pub mod Continues
 pub mod Programs
 pub mod Examples
 pub mod Faults
+pub mod Raised

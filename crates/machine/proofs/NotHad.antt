@@ -1,7 +1,7 @@
 -- A cell of a field that the object's class does not have is zero in every state of every run. Assumes nothing.
 use mathlib.Core.Path.{_≡_, refl, sym, ap, _∙_}
 use mathlib.Core.Bool.{true, false, false≢true}
-use mathlib.Core.List.{List, [], _∷_}
+use mathlib.Core.List.{List, [], _∷_, _++_}
 use Prim.Native.Nat.{ℕ, zero, suc}
 use lib.Dec.{ltb}
 use lib.ListN.{getD}
@@ -16,7 +16,8 @@ use Rattle.search.specs.declared.Handling.the-variants.{Caught, Uncaught}
 use Rattle.search.specs.Search.{hasField, handlerFor}
 use Rattle.machine.specs.declared.Value.{Value}
 use Rattle.machine.specs.declared.Effect.{Effect}
-use Rattle.machine.specs.declared.Effect.the-variants.{Next, Jump, Write, Load, LoadStatic, Make, Store, StoreStatic, Call, Exit, Raise, Fail}
+use Rattle.machine.specs.declared.Effect.the-variants.{Next, Jump, Write, Load, LoadStatic, Make, Store, StoreStatic, Call, Exit}
+use Rattle.machine.specs.declared.Effect.the-variants.{Raise, RaiseNew, Fail}
 use Rattle.machine.specs.State.{Frame, Object, Status, running, raised, done, uncaught, failed, State, null, noObject, objectAt}
 use Rattle.machine.specs.Decide.{decide}
 use Rattle.machine.specs.Run.{fresh, stored, returned, apply, dropped, unwound, stepBy, step, run}
@@ -48,15 +49,18 @@ module _ (p : Program) (s : State) (h : Every (NotHad p) (s .objects)) where
   unwound-kept f rest o (Caught i) = h
   unwound-kept f rest o Uncaught = dropped-kept o rest
 
+  more-kept : (c : ℕ) → Every (NotHad p) (s .objects ++ fresh p c ∷ [])
+  more-kept c =
+      every-append (NotHad p) (s .objects) (fresh p c ∷ []) h
+      (λ x _. replicate-at (λ (v : Value). v ≡ null) (fieldCount p) null x refl, tt)
+
   applied-kept : (f : Frame) (rest : List Frame) (e : Effect) → Writes p s e → Kept (apply p s f rest e)
   applied-kept f rest Next k = h
   applied-kept f rest (Jump to) k = h
   applied-kept f rest (Write a v) k = h
   applied-kept f rest (Load a o x) k = h
   applied-kept f rest (LoadStatic a x) k = h
-  applied-kept f rest (Make a c) k =
-      every-append (NotHad p) (s .objects) (fresh p c ∷ []) h
-      (λ x _. replicate-at (λ (v : Value). v ≡ null) (fieldCount p) null x refl, tt)
+  applied-kept f rest (Make a c) k = more-kept c
   applied-kept f rest (Store o x v) k =
       every-set (NotHad p) (s .objects) o _
       (stored-not-had p (objectAt s o) x v (k .1) (every-at (NotHad p) (s .objects) o noObject (λ _ _. refl) h)) h
@@ -64,6 +68,7 @@ module _ (p : Program) (s : State) (h : Every (NotHad p) (s .objects)) where
   applied-kept f rest (Call m c) k = h
   applied-kept f rest (Exit v) k = returned-kept v rest
   applied-kept f rest (Raise o) k = h
+  applied-kept f rest (RaiseNew c) k = more-kept c
   applied-kept f rest (Fail e) k = h
 
   inside : (f : Frame) (after : State) → Kept after → Kept (pick (ltb (f .address) (codeLength p (f .method))) after s)

@@ -28,7 +28,8 @@ use Rattle.search.specs.Search.{below, hasField, virtualCallee}
 use Rattle.machine.specs.declared.Value.{Value}
 use Rattle.machine.specs.declared.Value.the-variants.{Number, Reference}
 use Rattle.machine.specs.declared.Effect.{Effect}
-use Rattle.machine.specs.declared.Effect.the-variants.{Next, Jump, Write, Load, LoadStatic, Make, Store, StoreStatic, Call, Exit, Raise, Fail}
+use Rattle.machine.specs.declared.Effect.the-variants.{Next, Jump, Write, Load, LoadStatic, Make, Store, StoreStatic, Call, Exit}
+use Rattle.machine.specs.declared.Effect.the-variants.{Raise, RaiseNew, Fail}
 use Rattle.machine.specs.declared.Fault.the-variants.{FieldNotHad}
 use Rattle.machine.specs.State.{Frame, Object, State, null, register, objectAt, classOf}
 use Rattle.machine.specs.Decide.{notObject, computedInto, binop, unop, compared, branch, getField, putField, callOf, virtualCall, throw, instanceOf, checkCast, decide}
@@ -89,6 +90,7 @@ Writes p s (StoreStatic x v) = Signed v
 Writes p s (Call m c) = Unit {0}
 Writes p s (Exit v) = Signed v
 Writes p s (Raise o) = Unit {0}
+Writes p s (RaiseNew k) = Unit {0}
 Writes p s (Fail e) = Unit {0}
 
 module _ (p : Program) (s : State) where

@@ -1,5 +1,5 @@
 -- Every number of a run is a signed 32-bit number, for every program and every count of steps. Assumes nothing.
-use mathlib.Core.List.{List, [], _∷_}
+use mathlib.Core.List.{List, [], _∷_, _++_}
 use Prim.Native.Nat.{ℕ, zero, suc, _-_}
 use lib.Dec.{ltb}
 use Rattle.instruction.specs.Word.{pick}
@@ -13,7 +13,8 @@ use Rattle.search.specs.Search.{handlerFor}
 use Rattle.machine.specs.declared.Value.{Value}
 use Rattle.machine.specs.declared.Value.the-variants.{Reference}
 use Rattle.machine.specs.declared.Effect.{Effect}
-use Rattle.machine.specs.declared.Effect.the-variants.{Next, Jump, Write, Load, LoadStatic, Make, Store, StoreStatic, Call, Exit, Raise, Fail}
+use Rattle.machine.specs.declared.Effect.the-variants.{Next, Jump, Write, Load, LoadStatic, Make, Store, StoreStatic, Call, Exit}
+use Rattle.machine.specs.declared.Effect.the-variants.{Raise, RaiseNew, Fail}
 use Rattle.machine.specs.State.{Frame, Status, running, raised, done, uncaught, failed, State, null, noObject, objectAt, start}
 use Rattle.machine.specs.Decide.{decide}
 use Rattle.machine.specs.Run.{moved, wrote, resumed, entered, fresh, returned, apply, dropped, unwound, stepBy, step, run}
@@ -64,6 +65,11 @@ module _ (p : Program) (s : State) (signed : SignedState s) where
           result = null-signed;
         }
 
+    more-objects : (k : ℕ) → Every SignedObject (s .objects ++ fresh p k ∷ [])
+    more-objects k =
+        every-append SignedObject (s .objects) (fresh p k ∷ []) (signed .objects)
+        (every-replicate Signed (fieldCount p) null null-signed, tt)
+
     applied : (e : Effect) → Writes p s e → SignedState (apply p s f rest e)
     applied Next k = with-frames _ running (on _)
     applied (Jump to) k = with-frames _ running (on to)
@@ -72,13 +78,7 @@ module _ (p : Program) (s : State) (signed : SignedState s) where
         with-frames _ running (written a _ (every-at Signed (objectAt s o .cells) x null null-signed (object-signed o)))
     applied (LoadStatic a x) k =
         with-frames _ running (written a _ (every-at Signed (s .statics) x null null-signed (signed .statics)))
-    applied (Make a k) t =
-        record {
-          frames = written a _ tt;
-          objects = every-append SignedObject (s .objects) (fresh p k ∷ []) (signed .objects)
-              (every-replicate Signed (fieldCount p) null null-signed, tt);
-          statics = signed .statics;
-        }
+    applied (Make a k) t = record { frames = written a _ tt; objects = more-objects k; statics = signed .statics }
     applied (Store o x v) k =
         record {
           frames = on _;
@@ -91,6 +91,7 @@ module _ (p : Program) (s : State) (signed : SignedState s) where
     applied (Call m c) k = with-frames _ running (entered-signed m c, h)
     applied (Exit v) k = returned-signed v rest k (h .1)
     applied (Raise o) k = with-frames _ (raised o) (signed .frames)
+    applied (RaiseNew k) t = record { frames = signed .frames; objects = more-objects k; statics = signed .statics }
     applied (Fail e) k = with-frames _ (failed e) (signed .frames)
 
   -- ---- a step

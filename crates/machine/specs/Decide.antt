@@ -14,25 +14,26 @@ use Rattle.instruction.specs.Word.{pick}
 use Rattle.arithmetic.specs.declared.Computed.{Computed}
 use Rattle.arithmetic.specs.declared.Computed.the-variants.{Number as Result, ByZero}
 use Rattle.arithmetic.specs.Arithmetic.{isZero, computed, unaryValue, inOrder}
-use Rattle.program.specs.Program.{Program}
+use Rattle.program.specs.Program.{Program, throwableClass, nullClass, arithmeticClass, castClass}
 use Rattle.search.specs.declared.Callee.{Callee}
 use Rattle.search.specs.declared.Callee.the-variants.{Found, Missing}
 use Rattle.search.specs.Search.{below, hasField, virtualCallee}
 use Rattle.machine.specs.declared.Value.{Value}
 use Rattle.machine.specs.declared.Value.the-variants.{Number, Reference}
-use Rattle.machine.specs.declared.Fault.the-variants.{NullAsObject, NumberAsObject, ObjectAsNumber, DivisionByZero, FieldNotHad, NoMethod, NotThrowable, FailedCast}
+use Rattle.machine.specs.declared.Fault.the-variants.{NumberAsObject, ObjectAsNumber, FieldNotHad, NoMethod, NotThrowable}
 use Rattle.machine.specs.declared.Effect.{Effect}
-use Rattle.machine.specs.declared.Effect.the-variants.{Next, Jump, Write, Load, LoadStatic, Make, Store, StoreStatic, Call, Exit, Raise, Fail}
+use Rattle.machine.specs.declared.Effect.the-variants.{Next, Jump, Write, Load, LoadStatic, Make, Store, StoreStatic, Call, Exit}
+use Rattle.machine.specs.declared.Effect.the-variants.{Raise, RaiseNew, Fail}
 use Rattle.machine.specs.State.{Frame, State, null, register, classOf}
 
--- "1 null as object, 2 other number as object"
+-- what is no object and used as one: null raises class 2 ("Null is an exception here"), "2 other number as object"
 abbrev pub notObject : ℤ → Effect
-notObject z = pick (isZero z) (Fail NullAsObject) (Fail NumberAsObject)
+notObject z = pick (isZero z) (RaiseNew nullClass) (Fail NumberAsObject)
 
--- binop a: "3 object as number, 4 division by zero", "binop tests both for 3 before 4"
+-- binop a: "3 object as number", "binop tests both for 3 before 4"; where fault 4 was, division by zero, class 3 is raised
 abbrev pub computedInto : ℕ → Computed → Effect
 computedInto a (Result z) = Write a (Number z)
-computedInto a ByZero = Fail DivisionByZero
+computedInto a ByZero = RaiseNew arithmeticClass
 
 abbrev pub binop : ℕ → Operation → Value → Value → Effect
 binop a o (Number x) (Number y) = computedInto a (computed o x y)
@@ -83,17 +84,17 @@ virtualCall p k n b c (Reference o) = callOf (virtualCallee p k n b) c
 -- throw v, an object of class k: "Class 1 is Throwable", "7 throw of no Throwable"
 abbrev pub throw : Program → ℕ → Value → Effect
 throw p k (Number z) = notObject z
-throw p k (Reference o) = pick (below p k 1) (Raise o) (Fail NotThrowable)
+throw p k (Reference o) = pick (below p k throwableClass) (Raise o) (Fail NotThrowable)
 
 -- instance-of a←v, an object of class k, class c: "1 if so, else 0", "Null .. is an instance of nothing"
 abbrev pub instanceOf : Program → ℕ → ℕ → ℕ → Value → Effect
 instanceOf p k a c (Number z) = pick (isZero z) (Write a null) (Fail NumberAsObject)
 instanceOf p k a c (Reference o) = Write a (pick (below p k c) (Number (pos 1)) null)
 
--- check-cast a, class c, of v, an object of class k: "Null passes a cast", "8 failed cast"
+-- check-cast a, class c, of v, an object of class k: "Null passes a cast"; where fault 8 was, a failed cast, class 4 is raised
 abbrev pub checkCast : Program → ℕ → ℕ → ℕ → Value → Effect
 checkCast p k a c (Number z) = pick (isZero z) (Write a (Number z)) (Fail NumberAsObject)
-checkCast p k a c (Reference o) = pick (below p k c) (Write a (Reference o)) (Fail FailedCast)
+checkCast p k a c (Reference o) = pick (below p k c) (Write a (Reference o)) (RaiseNew castClass)
 
 abbrev pub decide : Program → State → Frame → Instruction → Effect
 decide p s f Nop = Next

@@ -12,7 +12,8 @@ use Rattle.search.specs.Search.{handlerFor}
 use Rattle.machine.specs.declared.Value.{Value}
 use Rattle.machine.specs.declared.Value.the-variants.{Reference}
 use Rattle.machine.specs.declared.Effect.{Effect}
-use Rattle.machine.specs.declared.Effect.the-variants.{Next, Jump, Write, Load, LoadStatic, Make, Store, StoreStatic, Call, Exit, Raise, Fail}
+use Rattle.machine.specs.declared.Effect.the-variants.{Next, Jump, Write, Load, LoadStatic, Make, Store, StoreStatic, Call, Exit}
+use Rattle.machine.specs.declared.Effect.the-variants.{Raise, RaiseNew, Fail}
 use Rattle.machine.specs.State.{Frame, Object, Status, running, raised, done, uncaught, failed, State, null, register, objectAt, cell, static, start}
 use Rattle.machine.specs.Decide.{decide}
 
@@ -90,6 +91,14 @@ apply p s f rest (Call m c) = withFrames s (entered p m c f ∷ f ∷ rest)
 apply p s f rest (Exit v) = returned s v rest
 -- "Throw makes the object pending, in one step"
 apply p s f rest (Raise o) = withStatus s (raised o)
+-- "The step that would fault makes such an object, its fields zero, and makes it pending"
+apply p s f rest (RaiseNew k) =
+    record {
+      frames = s .frames;
+      objects = s .objects ++ fresh p k ∷ [];
+      statics = s .statics;
+      status = raised (length (s .objects));
+    }
 -- "a fault changes nothing else"
 apply p s f rest (Fail e) = withStatus s (failed e)
 

@@ -8,7 +8,8 @@ use Rattle.program.specs.Program.{Program, classCount, fieldCount, methodCount,
 use Rattle.machine.specs.declared.Value.{Value}
 use Rattle.machine.specs.declared.Value.the-variants.{Number, Reference}
 use Rattle.machine.specs.declared.Effect.{Effect}
-use Rattle.machine.specs.declared.Effect.the-variants.{Next, Jump, Write, Load, LoadStatic, Make, Store, StoreStatic, Call, Exit, Raise, Fail}
+use Rattle.machine.specs.declared.Effect.the-variants.{Next, Jump, Write, Load, LoadStatic, Make, Store, StoreStatic, Call, Exit}
+use Rattle.machine.specs.declared.Effect.the-variants.{Raise, RaiseNew, Fail}
 use Rattle.machine.specs.State.{Frame, Object, Status, running, raised, done, uncaught, failed, State, null, register, objectAt}
 
 -- a number, or one of the first n objects
@@ -55,4 +56,5 @@ Fitting p s f (StoreStatic x v) = (x < length (s .statics)) × Known (length (s 
 Fitting p s f (Call m c) = (m < methodCount p) × (c + arguments p m ≤ length (f .registers))
 Fitting p s f (Exit v) = Known (length (s .objects)) v
 Fitting p s f (Raise o) = o < length (s .objects)
+Fitting p s f (RaiseNew k) = k < classCount p
 Fitting p s f (Fail e) = Unit {0}

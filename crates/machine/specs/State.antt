@@ -7,7 +7,7 @@ use Rattle.program.specs.Program.{Program, registers}
 use Rattle.machine.specs.declared.Value.{Value}
 use Rattle.machine.specs.declared.Value.the-variants.{Number, Reference}
 use Rattle.machine.specs.declared.Fault.{Fault}
-use Rattle.machine.specs.declared.Fault.the-variants.{NullAsObject, NumberAsObject, ObjectAsNumber, DivisionByZero, FieldNotHad, NoMethod, NotThrowable, FailedCast}
+use Rattle.machine.specs.declared.Fault.the-variants.{NumberAsObject, ObjectAsNumber, FieldNotHad, NoMethod, NotThrowable}
 
 -- "null is number 0"
 abbrev pub null : Value
@@ -41,17 +41,14 @@ pub record State : Type 0 where
   pub statics : List Value
   pub status : Status
 
--- "fault: 1 null as object, 2 other number as object, 3 object as number, 4 division by zero, 5 field not had, 6 no method,
--- 7 throw of no Throwable, 8 failed cast"
+-- "2 other number as object, 3 object as number", "5 field not had, 6 no method, 7 throw of no Throwable"; "faults 1, 4 and 8
+-- cease"
 abbrev pub faultNumber : Fault → ℕ
-faultNumber NullAsObject = 1
 faultNumber NumberAsObject = 2
 faultNumber ObjectAsNumber = 3
-faultNumber DivisionByZero = 4
 faultNumber FieldNotHad = 5
 faultNumber NoMethod = 6
 faultNumber NotThrowable = 7
-faultNumber FailedCast = 8
 
 -- what stands where there is no frame, and no object: no class has number 64
 abbrev pub noFrame : Frame

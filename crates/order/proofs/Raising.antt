@@ -8,7 +8,7 @@ use Rattle.text.proofs.Cases.{never}
 use Rattle.mask.specs.declared.Mask.{Mask}
 use Rattle.mask.specs.Mask.{has}
 use Rattle.flow.specs.Claim.{Slot, Claim}
-use Rattle.flow.specs.Flows.{Flows, _∈_, _⊆_, _&_, each, when}
+use Rattle.flow.specs.Flows.{Flows, _∈_, _⊆_, _&_, each, when, Holds}
 use Rattle.order.specs.Order.{Below}
 use Rattle.order.specs.Raised.{Goes, Raised, Joined, nothing}
 use Rattle.order.proofs.Flowing.{goes-more}
@@ -34,6 +34,12 @@ raised-bit k m s c d own only j =
       asked = j .has-it k own;
       least = λ e h b. j .least e (λ i x. rw (only i x) h) b;
     }
+
+-- ---- other flows that ask for the same
+pub raised-as : (f g : Flows) (c d : Claim) → (Goes c d f → Goes c d g) → ((e : Claim) → Below c e → Holds e g → Holds e f)
+    → Raised f c d → Raised g c d
+raised-as f g c d goes holds r =
+    record { grows = r .grows; asked = goes (r .asked); least = λ e h b. r .least e (holds e b h) b }
 
 -- ---- flows one after another
 pub raised-nothing : (c : Claim) → Raised nothing c c

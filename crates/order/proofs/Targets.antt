@@ -13,7 +13,8 @@ use Rattle.instruction.specs.Test.{Holds as TestHolds}
 use Rattle.instruction.specs.Word.{fallsThrough}
 use Rattle.operands.specs.Names.{named}
 use Rattle.program.specs.Lists.{Every}
-use Rattle.program.specs.Program.{Program, methodCount, registers, arguments, codeLength, instructionAt, handlerTarget}
+use Rattle.program.specs.Program.{Program, nullClass, arithmeticClass, castClass, methodCount, registers, arguments, codeLength}
+use Rattle.program.specs.Program.{instructionAt, handlerTarget}
 use Rattle.search.specs.declared.Callee.the-variants.{Found}
 use Rattle.search.specs.Search.{virtualCallee}
 use Rattle.values.specs.Values.{limitsOf, callTest}
@@ -24,8 +25,8 @@ use Rattle.flow.specs.Claim.{Slot, registerAt, Claim}
 use Rattle.flow.specs.Flows.{Flows, _∈_, _⊆_, _&_, each, given, numeric, when, found, handled, unhandled, Holds}
 use Rattle.flow.specs.Verdict.{accepted, verdict}
 use Rattle.flow.proofs.Verdicts.{accepted-holds, rules-at, rules-hold, holds-accepted}
-use Rattle.flow.specs.Rules.{initialMemory, entry, carried, onward, onwardExcept, intoHandler, argumentInto, parameter}
-use Rattle.flow.specs.Rules.{Rule, rulesOf, rulesAt}
+use Rattle.flow.specs.Rules.{initialMemory, entry, carried, onward, onwardExcept, intoHandler, intoLeaving, argumentInto, parameter}
+use Rattle.flow.specs.Rules.{raisedBy, raising, Rule, rulesOf, rulesAt}
 use Rattle.flow.proofs.Calls.{field-exists, handler-exists}
 use Rattle.flow.proofs.Decided.{next-inside}
 use Rattle.order.specs.Order.{Below}
@@ -80,6 +81,34 @@ module _ (p : Program) (formed : Formed p) where
           let own : q ≡ n = cc in
           rw (← own) (static-own q b c l same)
 
+      -- what is asked of each class that is raised goes only into slots of the program, where it does for every class
+      raised-own : (i : Instruction) (f : ℕ → Flows) → ((k : ℕ) → Targets (Own p) (f k)) → Targets (Own p) (raisedBy p m pc i f)
+      raised-own Nop f t = λ k _. t k
+      raised-own (Move a b) f t = λ k _. t k
+      raised-own (Const a d) f t = λ k _. t k
+      raised-own (Goto d) f t = λ k _. t k
+      raised-own (If o a b d) f t = λ k _. t k
+      raised-own (IfZero o a d) f t = λ k _. t k
+      raised-own (Binop o a b d) f t = λ _ _. t arithmeticClass
+      raised-own (Unop o a b) f t = λ k _. t k
+      raised-own (NewInstance a k) f t = λ j _. t j
+      raised-own (Iget a b x) f t = λ _. t nullClass
+      raised-own (Iput a b x) f t = λ _. t nullClass
+      raised-own (Sget a x) f t = λ k _. t k
+      raised-own (Sput a x) f t = λ k _. t k
+      raised-own (InvokeVirtual n b c) f t = (λ _. t nullClass, λ _ _ _ _ k _. t k)
+      raised-own (InvokeStatic q b c) f t = λ k _. t k
+      raised-own (MoveResult a) f t = λ k _. t k
+      raised-own (MoveException a) f t = λ k _. t k
+      raised-own (Return a) f t = λ k _. t k
+      raised-own ReturnVoid f t = λ k _. t k
+      raised-own (Throw a) f t = (λ _. t nullClass, λ k _ _. t k)
+      raised-own (InstanceOf a b k) f t = λ j _. t j
+      raised-own (CheckCast a k) f t = λ _ _ _ _. t castClass
+
+      raising-own : (i : Instruction) → Every (λ r. Targets (Own p) (r .flows)) (raising p m pc i)
+      raising-own i = (raised-own i (intoHandler p m pc) caught-own, (raised-own i (intoLeaving p m pc) (λ k _. lm), tt))
+
       rules-of-own : (i : Instruction) → TestHolds (named (limitsOf p m) i) → TestHolds (callTest p i)
           → (fallsThrough i ≡ true → suc pc < codeLength p m)
           → Every (λ r. Targets (Own p) (r .flows)) (rulesOf p m pc i)
@@ -89,28 +118,32 @@ module _ (p : Program) (formed : Formed p) where
       rules-of-own (Goto d) h t on = (onward-own d h, tt)
       rules-of-own (If o a b d) h t on = (onward-own (suc pc) (on refl), (onward-own d (h .1 .1), tt))
       rules-of-own (IfZero o a d) h t on = (onward-own (suc pc) (on refl), (onward-own d (h .1), tt))
-      rules-of-own (Binop o a b d) h t on = (except-own a (suc pc) (on refl), (((lm, on refl, h .0), (lm, on refl, h .0)), tt))
+      rules-of-own (Binop o a b d) h t on =
+          (except-own a (suc pc) (on refl), (((lm, on refl, h .0), (lm, on refl, h .0)), raising-own (Binop o a b d)))
       rules-of-own (Unop o a b) h t on = (except-own a (suc pc) (on refl), (((lm, on refl, h .0), (lm, on refl, h .0)), tt))
       rules-of-own (NewInstance a k) h t on = (except-own a (suc pc) (on refl), ((lm, on refl, h .0), tt))
-      rules-of-own (Iget a b x) h t on = (except-own a (suc pc) (on refl), (λ k _ _. (lm, on refl, h .0), tt))
-      rules-of-own (Iput a b x) h t on = (onward-own (suc pc) (on refl), (λ k l e. (l, field-exists p k x e, e), tt))
+      rules-of-own (Iget a b x) h t on =
+          (except-own a (suc pc) (on refl), (λ k _ _. (lm, on refl, h .0), raising-own (Iget a b x)))
+      rules-of-own (Iput a b x) h t on =
+          (onward-own (suc pc) (on refl), (λ k l e. (l, field-exists p k x e, e), raising-own (Iput a b x)))
       rules-of-own (Sget a x) h t on = (except-own a (suc pc) (on refl), ((lm, on refl, h .0), tt))
       rules-of-own (Sput a x) h t on = (onward-own (suc pc) (on refl), (h .1, tt))
       rules-of-own (InvokeVirtual n b c) h t on = (
         carried-own (suc pc) (on refl),
-        (λ k _ q e. virtual-own n b c k q (h .0) e, (λ k _ q _. (lm, on refl), (λ _ _ q _ k _. caught-own k, (λ _ _ q _ k _ _. lm, tt)))),
+        (λ k _ q e. virtual-own n b c k q (h .0) e, (λ k _ q _. (lm, on refl), raising-own (InvokeVirtual n b c))),
       )
       rules-of-own (InvokeStatic q b c) h t on = (
         carried-own (suc pc) (on refl),
-        (called-own q b c (h .0) (t .1 .0), ((lm, on refl), (λ k _. caught-own k, (λ k _ _. lm, tt)))),
+        (called-own q b c (h .0) (t .1 .0), ((lm, on refl), raising-own (InvokeStatic q b c))),
       )
       rules-of-own (MoveResult a) h t on = (except-own a (suc pc) (on refl), ((lm, on refl, h), tt))
       rules-of-own (MoveException a) h t on = (except-own a (suc pc) (on refl), ((lm, on refl, h), tt))
       rules-of-own (Return a) h t on = (lm, tt)
       rules-of-own ReturnVoid h t on = (lm, tt)
-      rules-of-own (Throw a) h t on = ((λ k _ _. caught-own k), ((λ k _ _ _. lm), tt))
+      rules-of-own (Throw a) h t on = raising-own (Throw a)
       rules-of-own (InstanceOf a b k) h t on = (except-own a (suc pc) (on refl), (((lm, on refl, h .0), (lm, on refl, h .0)), tt))
-      rules-of-own (CheckCast a k) h t on = (except-own a (suc pc) (on refl), (((lm, on refl, h .0), λ j _ _. (lm, on refl, h .0)), tt))
+      rules-of-own (CheckCast a k) h t on =
+          (except-own a (suc pc) (on refl), (((lm, on refl, h .0), λ j _ _. (lm, on refl, h .0)), raising-own (CheckCast a k)))
 
       pub rules-own : Every (λ r. Targets (Own p) (r .flows)) (rulesAt p m pc)
       rules-own = (

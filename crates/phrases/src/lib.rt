@@ -7,9 +7,9 @@ ghost use lib.ListN.{length};
 ghost use Rattle.phrases.specs.Complete.{complete};
 
 // The table, as crate words reads it.
-pub fn table() -> [u8; 2059]
+pub fn table() -> [u8; 1925]
     ensures complete { λ r. ⌜ complete r ≡ true ⌝ }
-    ensures length { λ r. ⌜ 2059 ≡ length r ⌝ }
+    ensures length { λ r. ⌜ 1925 ≡ length r ⌝ }
 {
     *b"\n\
         r00 zero, the start value, is not in the mask of each field and static\n\
@@ -39,13 +39,10 @@ pub fn table() -> [u8; 2059]
         n22 the steps asked for (at most 1,000,000) are made, and the run has not ended\n\
         n23 too little memory is lent\n\
         n24 the address is outside its method\n\
-        f01 null used as an object\n\
         f02 a number other than zero used as an object\n\
         f03 an object used as a number\n\
-        f04 division or remainder by zero\n\
         f05 the object's class does not have the field\n\
         f06 the object's class has no virtual method of that name and argument count\n\
         f07 the thrown object is not a Throwable\n\
-        f08 a failed cast: the object's class is not the one named, nor below it\n\
         "
 }

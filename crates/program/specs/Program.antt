@@ -39,6 +39,20 @@ methodCount p = length (p .methods)
 abbrev pub superclass : Program → ℕ → ℕ
 superclass p c = getD (p .supers) c 255
 
+-- "Class 1 is Throwable"
+abbrev pub throwableClass : ℕ
+throwableClass = 1
+
+-- document 02, note 2: "Classes 2, 3 and 4, each directly below 1, are null, arithmetic and cast"
+abbrev pub nullClass : ℕ
+nullClass = 2
+
+abbrev pub arithmeticClass : ℕ
+arithmeticClass = 3
+
+abbrev pub castClass : ℕ
+castClass = 4
+
 -- the class that a field is declared in
 abbrev pub fieldClass : Program → ℕ → ℕ
 fieldClass p f = getD (p .fields) f 255

@@ -1,23 +1,24 @@
 -- One mask joined for several flows at once. Assumes nothing.
 use mathlib.Core.Path.{_≡_, refl, sym, _∙_}
-use mathlib.Core.Bool.{true, false}
+use mathlib.Core.Bool.{Bool, true, false}
 use Prim.Native.Nat.{ℕ}
+use native.Mathlib.Omega.{arith}
 use lib.Dec.{eqb}
-use borrow.Author.Tests.{eqb-true, eq-eqb}
+use borrow.Author.Tests.{eqb-true, eq-eqb, ltb-true, lt-ltb}
 use Rattle.text.proofs.Cases.{never}
 use Rattle.mask.specs.declared.Mask.{Mask}
 use Rattle.mask.specs.Mask.{has, subset}
 use Rattle.mask.proofs.Laws.{has-less, subset-at}
 use Rattle.mask.proofs.Sets.{no-bit, subset-fails}
-use Rattle.program.specs.Program.{Program}
+use Rattle.program.specs.Program.{Program, classCount}
 use Rattle.flow.specs.Claim.{Slot, resultAt, Claim}
 use Rattle.flow.specs.Flows.{_∈_}
 use Rattle.flow.specs.Rules.{carried}
 use Rattle.slots.specs.Layout.{maskOf}
 use Rattle.order.specs.Raised.{Raised, Joined}
 use Rattle.order.proofs.Flowing.{goes-more}
-use Rattle.order.proofs.Raising.{below-same, below-then, raised-bit}
-use Rattle.raise.specs.Inside.{maskInto, takenInto, raisedFlows}
+use Rattle.order.proofs.Raising.{below-same, below-then, raised-bit, raised-as, raised-both, left-when}
+use Rattle.raise.specs.Inside.{maskInto, takenInto, raisedFlows, ownFlows}
 
 -- ---- a mask into a slot's
 pub raised-mask : (m : Mask) (s : Slot) (c d : Claim) → Joined s m c d → Raised (maskInto m s) c d
@@ -43,6 +44,24 @@ none-raised p m pc mask c none =
       asked = (λ k l t. absurd (not-in mask k none t), λ k l t. absurd (not-in mask k none t));
       least = λ e h b. b;
     }
+
+-- ---- a class that an instruction raises itself, as the only one in a mask
+module _ (p : Program) (m pc k : ℕ) (may : Bool) where
+  pub own-raised : (mask : Mask) → ((j : ℕ) → has mask j ≡ eqb j k) → may ≡ true → (c d : Claim)
+      → Raised (raisedFlows p m pc mask) c d → Raised (ownFlows p m pc may k) c d
+  own-raised mask bits raises c d =
+      raised-as (raisedFlows p m pc mask) (ownFlows p m pc may k) c d
+      (λ g. (
+        λ _ l. g .0 k (ltb-true k (classCount p) l) (bits k ∙ eq-eqb k k refl),
+        λ _ l. g .1 k (ltb-true k (classCount p) l) (bits k ∙ eq-eqb k k refl),
+      ))
+      (λ e _ h. (
+        λ j l t. let same = eqb-true j k (sym (bits j) ∙ t) in rw same (h .0 raises (lt-ltb k (classCount p) (omega (arith, same, l)))),
+        λ j l t. let same = eqb-true j k (sym (bits j) ∙ t) in rw same (h .1 raises (lt-ltb k (classCount p) (omega (arith, same, l)))),
+      ))
+
+  pub own-none : may ≡ false → (c : Claim) → Raised (ownFlows p m pc may k) c c
+  own-none quiet c = raised-both _ _ c c c (left-when may _ c quiet) (left-when may _ c quiet)
 
 -- ---- registers and a set of classes into one address
 module _ (p : Program) (m pc to : ℕ) (taken : Mask) where

@@ -10,7 +10,7 @@ use Rattle.program.specs.Program.{Program, classCount}
 use Rattle.search.specs.Search.{below, hasField}
 use Rattle.flow.specs.Claim.{Slot, resultAt, fieldOf, Claim}
 use Rattle.flow.specs.Flows.{Flows, _∈_, _⊆_, _&_, each, when}
-use Rattle.flow.specs.Rules.{carried, intoHandler, intoLeaving}
+use Rattle.flow.specs.Rules.{carried, intoHandler, intoLeaving, own}
 use Rattle.slots.specs.Layout.{placeOf}
 
 -- the first n of these slots have consecutive places, from place i on
@@ -55,6 +55,10 @@ abbrev pub raisedFlows : Program → ℕ → ℕ → Mask → Flows
 raisedFlows p m pc mask =
     each (classCount p) (λ k. when (has mask k) (intoHandler p m pc k))
     & each (classCount p) (λ k. when (has mask k) (intoLeaving p m pc k))
+
+-- rules 9 and 10 of class k, which an instruction raises itself, where it may
+abbrev pub ownFlows : Program → ℕ → ℕ → Bool → ℕ → Flows
+ownFlows p m pc may k = when may (own p m pc k (intoHandler p m pc)) & when may (own p m pc k (intoLeaving p m pc))
 
 -- rule 9 of the classes in a mask that all go to one address
 abbrev pub takenInto : Program → ℕ → ℕ → ℕ → Mask → Flows

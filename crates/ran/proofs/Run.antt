@@ -1,6 +1,6 @@
 -- The stepper's run reaches what it must answer. Assumes nothing.
 use mathlib.Core.Path.{_≡_, refl, sym, ap, _∙_}
-use mathlib.Core.Bool.{true, _&&_}
+use mathlib.Core.Bool.{true, false, _&&_}
 use mathlib.Core.List.{List}
 use Prim.Native.Nat.{ℕ, zero, suc, _≤_, _<_}
 use native.Mathlib.Omega.{arith}
@@ -15,12 +15,12 @@ use Rattle.instruction.proofs.Flags.{pick-cases}
 use Rattle.turn.specs.declared.Status.the-variants as status
 use Rattle.bounded.specs.Bounded.{steps}
 use Rattle.site.specs.declared.How.{How}
-use Rattle.site.specs.declared.How.the-variants.{Went, Leaves, Failed}
+use Rattle.site.specs.declared.How.the-variants.{Went, Leaves, Raises, Failed}
 use Rattle.shift.specs.declared.Run.{Run}
 use Rattle.shift.specs.declared.Stop.the-variants as stop
 use Rattle.shift.specs.declared.Stay.{Stay}
 use Rattle.shift.specs.declared.At as shift
-use Rattle.shift.specs.Stay.{isOpen, againLeft, atOf, raisedAt, isRunning, isNo, runsOn}
+use Rattle.shift.specs.Stay.{isWent, isReady, isOpen, againLeft, atOf, isRunning, isNo, runsOn}
 use Rattle.shift.specs.Shift.{stopped}
 use Rattle.drive.specs.Models.{Lent, Done, done, looped}
 use Rattle.turns.specs.Turns.{applied, executed}
@@ -33,28 +33,25 @@ use Rattle.rounds.specs.Rounds.{stayIn, forthDone, backDone, roundDone, runs, t
 use Rattle.rounds.proofs.Falls.{run-falls}
 use Rattle.begun.specs.Begun.{startRun}
 use Rattle.ran.specs.Ran.{Going, Finished}
-use Rattle.ran.specs.Rounding.{PausedBy, Rounded}
+use Rattle.ran.specs.Rounding.{Here, PausedBy, Rounded}
 use Rattle.ran.proofs.Steps.{as-many, goes-on, begins}
 use Rattle.ran.proofs.Begins.{small}
 use Rattle.ran.proofs.Stops.{is-running, is-raised, again-is, no-stop, goes, shifted-on, over, no-turn}
 use Rattle.ran.proofs.Within.{paused}
 
+abbrev stay : ℕ → ℕ → ℕ → ℕ → How → Stay
+stay left top m pc h = record { left = left; top = top; method = m; pc = pc; how = h }
+
 module _ (t : List ℕ) (formed : Formed (programIn t)) (before : Lent) (roomy : Roomy before) (n : ℕ) (few : n < 18446744073709551615) where
   module _ (s : State) where
     -- ---- a round
-    -- what comes after the steps that stay in the frame, by how the last one ended
-    by-how : (k : Run) → k .stop ≡ stop.No → (left top m pc : ℕ) (h : How) (now : Lent)
-        → PausedBy (programIn t) n s before (k .tally) (record { left = left; top = top; method = m; pc = pc; how = h }) now h
-        → Rounded (programIn t) n s before (executed t now (atOf (programIn t) k (record { left = left; top = top; method = m; pc = pc; how = h })))
-    by-how k e left top m pc Went now w =
-        let r : Run = record { left = left; tally = k .tally; stop = k .stop } in
-        pick-cases (λ (q : Run). Rounded (programIn t) n s before (done q now)) (ltb 0 left) (stopped r stop.Outside) r
-        (λ l. record { going = w .0; stops = λ _. (ltb-true 0 left l, w .1 (ltb-true 0 left l)) })
-        (λ _. goes (programIn t) formed n s before r now e (w .0))
-    by-how k e left top m pc Leaves now w =
-        let j : Stay = record { left = left; top = top; method = m; pc = pc; how = Leaves } in
-        let h : shift.At = atOf (programIn t) k j in
-        let again : h .run .left ≡ suc left = again-is left (omega (arith, w .going .few)) in
+    -- an instruction that does not stay in its frame, or raises a new object
+    by-applied : (k : Run) → k .stop ≡ stop.No → (left top m pc : ℕ) (h : How) (now : Lent) → isReady h ≡ true → isWent h ≡ false
+        → Here (programIn t) n s before (k .tally) (stay left top m pc h) now h
+        → Rounded (programIn t) n s before (applied t now (atOf (programIn t) k (stay left top m pc h)))
+    by-applied k e left top m pc x now ready stays w =
+        let h : shift.At = atOf (programIn t) k (stay left top m pc x) in
+        let again : h .run .left ≡ suc left = rw stays (again-is left (omega (arith, w .going .few))) in
         let come : Come (programIn t) (w .frame) h =
         record {
           pc = rw (w .pc) (small (programIn t) formed (w .frame .method) (w .frame .address) (w .at .inside));
@@ -64,10 +61,25 @@ module _ (t : List ℕ) (formed : Formed (programIn t)) (before : Lent) (roomy :
         shifted-on (programIn t) formed n s before (h .run) now
         (as-many (programIn t) n (suc left) s before (k .tally) now (w .going) (h .run .left) again) (omega (arith, again))
         (applied t now h)
-        (applied-lies t formed (w .going .state) before roomy now (w .going .shaped) (w .frame) (w .rest) (w .at) h come e (w .going .lies) (w .leaves))
+        (applied-lies t formed (w .going .state) before roomy now (w .going .shaped) (w .frame) (w .rest) (w .at) h come e (w .going .lies)
+        x refl ready (w .left))
+
+    -- what comes after the steps that stay in the frame, by how the last one ended
+    by-how : (k : Run) → k .stop ≡ stop.No → (left top m pc : ℕ) (h : How) (now : Lent)
+        → PausedBy (programIn t) n s before (k .tally) (stay left top m pc h) now h
+        → Rounded (programIn t) n s before (executed t now (atOf (programIn t) k (stay left top m pc h)))
+    by-how k e left top m pc Went now w =
+        let r : Run = record { left = left; tally = k .tally; stop = k .stop } in
+        pick-cases (λ (q : Run). Rounded (programIn t) n s before (done q now)) (ltb 0 left) (stopped r stop.Outside) r
+        (λ l. record { going = w .0; stops = λ _. (ltb-true 0 left l, w .1 (ltb-true 0 left l)) })
+        (λ _. goes (programIn t) formed n s before r now e (w .0))
+    by-how k e left top m pc Leaves now w = by-applied k e left top m pc Leaves now refl refl w
+    by-how k e left top m pc (Raises c) now w = by-applied k e left top m pc (Raises c) now refl refl w
     by-how k e left top m pc (Failed f) now w =
         let again : againLeft left (Failed f) ≡ suc left = again-is left (omega (arith, w .going .few)) in
-        let fails = failed-lies (programIn t) formed (w .going .state) before roomy (k .tally) now (w .going .shaped) (w .going .lies) (w .frame) (w .rest) (w .at) f (w .effect) in
+        let fails =
+        failed-lies (programIn t) formed (w .going .state) before roomy (k .tally) now (w .going .shaped) (w .going .lies) (w .frame)
+        (w .rest) (w .at) f (w .left) in
         goes (programIn t) formed n s before _ now e
         (goes-on (programIn t) n _ s before (k .tally) now
         (as-many (programIn t) n (suc left) s before (k .tally) now (w .going) (againLeft left (Failed f)) again) formed (omega (arith, again)) _ now (fails .0) (fails .1))

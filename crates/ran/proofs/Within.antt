@@ -1,6 +1,6 @@
 -- The loop that stays in the top frame: what holds before each turn, and after the last. Assumes nothing.
 use mathlib.Core.Path.{_≡_, refl, sym, ap, subst, _∙_}
-use mathlib.Core.Bool.{_&&_}
+use mathlib.Core.Bool.{false, _&&_}
 use mathlib.Core.List.{List, [], _∷_}
 use Prim.Native.Nat.{ℕ, zero, suc, _-_, _≤_, _<_}
 use native.Mathlib.Omega.{arith}
@@ -18,7 +18,7 @@ use Rattle.turn.specs.declared.Status.the-variants.{Running}
 use Rattle.turn.specs.declared.Tally.{Tally}
 use Rattle.site.specs.declared.Gone.{Gone}
 use Rattle.site.specs.declared.How.{How}
-use Rattle.site.specs.declared.How.the-variants.{Went, Leaves, Failed}
+use Rattle.site.specs.declared.How.the-variants.{Went, Leaves, Raises, Failed}
 use Rattle.site.specs.declared.Site.{Site}
 use Rattle.shift.specs.declared.Run.{Run}
 use Rattle.shift.specs.declared.Stay.{Stay}
@@ -29,11 +29,11 @@ use Rattle.drive.specs.Models.{Lent, Done, done, looped}
 use Rattle.drive.proofs.Turns.{turn-over}
 use Rattle.work.specs.Work.{performed}
 use Rattle.lies.specs.Lies.{statusOf, Roomy}
-use Rattle.lies.specs.Staying.{siteAt, StayedBy}
+use Rattle.lies.specs.Staying.{siteAt, Undone, LeftBy, StayedBy}
 use Rattle.lies.proofs.Staying.{stayed}
 use Rattle.rounds.specs.Rounds.{oneDone, goes, methodIn, addressIn, stayIn}
 use Rattle.ran.specs.Ran.{Going}
-use Rattle.ran.specs.Rounding.{Standing, PausedBy, Paused, NextBy}
+use Rattle.ran.specs.Rounding.{Standing, Here, PausedBy, Paused, NextBy}
 use Rattle.ran.proofs.Steps.{as-many, goes-on}
 use Rattle.ran.proofs.Begins.{last, outside-stops, small, standing, nowhere}
 
@@ -54,6 +54,22 @@ module _ (t : List ℕ) (formed : Formed (programIn t)) (n : ℕ) (s : State) (b
       again : 0 < k .left → suc (precedingOf (k .left)) ≡ k .left
       again more = rw (preceding-is (k .left) more) (omega (arith, more))
 
+      -- where nothing was done, it is the next instruction still
+      undone : 0 < k .left → w .frame .address < codeLength (programIn t) (w .frame .method) → (r : Done Gone) (h : How)
+          → Undone now (w .frame) r → LeftBy (programIn t) (w .going .state) (w .frame) (w .rest) h
+          → Here (programIn t) n s before u (wentTo k (r .result)) (r .memory) h
+      undone more l r h still left =
+          rw (still .0)
+          (record {
+            going = as-many (programIn t) n (k .left) s before u now (w .going) (suc (precedingOf (k .left))) (again more);
+            frame = w .frame;
+            rest = w .rest;
+            at = at l;
+            method = w .method;
+            pc = still .1;
+            left = left;
+          })
+
       -- what the instruction comes to
       next : 0 < k .left → w .frame .address < codeLength (programIn t) (w .frame .method) → (r : Done Gone) (h : How) → r .result .how ≡ h
           → StayedBy (programIn t) (w .going .state) before u now (w .frame) (w .rest) r h
@@ -72,26 +88,9 @@ module _ (t : List ℕ) (formed : Formed (programIn t)) (n : ℕ) (s : State) (b
             pc = sym (st .1 .1 .address);
             how = e;
           }
-      next more l r Leaves e st =
-          rw (st .0)
-          (record {
-            going = as-many (programIn t) n (k .left) s before u now (w .going) (suc (precedingOf (k .left))) (again more);
-            frame = w .frame;
-            rest = w .rest;
-            at = at l;
-            method = w .method;
-            pc = refl;
-            leaves = st .1;
-          })
-      next more l r (Failed e) q st =
-          rw (st .0)
-          (record {
-            going = as-many (programIn t) n (k .left) s before u now (w .going) (suc (precedingOf (k .left))) (again more);
-            frame = w .frame;
-            rest = w .rest;
-            at = at l;
-            effect = st .1;
-          })
+      next more l r Leaves e st = undone more l r Leaves (st .0) (st .1)
+      next more l r (Raises c) e st = undone more l r (Raises c) (st .0) (st .1)
+      next more l r (Failed f) e st = undone more l r (Failed f) (st .0) (st .1)
 
       one : 0 < k .left → w .frame .address < codeLength (programIn t) (w .frame .method)
           → NextBy (programIn t) n s before u (oneDone t now k) (oneDone t now k .result .how)
@@ -110,16 +109,21 @@ module _ (t : List ℕ) (formed : Formed (programIn t)) (n : ℕ) (s : State) (b
           (w .going, λ more. outside-stops (programIn t) (w .going .state) (w .frame) (w .rest) runs (w .frames) (out more))
 
     -- where an instruction did not go to another address, no further turn is made
+    last-turn : (i : ℕ) (d : Done Stay) (h : How) → d .result .how ≡ h → isWent h ≡ false
+        → PausedBy (programIn t) n s before u (d .result) (d .memory) h
+        → Paused (programIn t) n s before u (looped goes oneDone t i (d .memory) (d .result))
+    last-turn i d h e off st =
+        subst (Paused (programIn t) n s before u) (turn-over goes oneDone t i (d .memory) (d .result) (rw (e, off) tt))
+        (subst (PausedBy (programIn t) n s before u (d .result) (d .memory)) (sym e) st)
+
+    -- a turn, by how its instruction ended
     turned : (i : ℕ) (d : Done Stay) (h : How) → d .result .how ≡ h → NextBy (programIn t) n s before u d h
         → (Standing (programIn t) n s before u (d .result) (d .memory) → Paused (programIn t) n s before u (looped goes oneDone t i (d .memory) (d .result)))
         → Paused (programIn t) n s before u (looped goes oneDone t i (d .memory) (d .result))
     turned i d Went e st on = on st
-    turned i d Leaves e st on =
-        subst (Paused (programIn t) n s before u) (turn-over goes oneDone t i (d .memory) (d .result) (rw e tt))
-        (subst (PausedBy (programIn t) n s before u (d .result) (d .memory)) (sym e) st)
-    turned i d (Failed f) e st on =
-        subst (Paused (programIn t) n s before u) (turn-over goes oneDone t i (d .memory) (d .result) (rw e tt))
-        (subst (PausedBy (programIn t) n s before u (d .result) (d .memory)) (sym e) st)
+    turned i d Leaves e st on = last-turn i d Leaves e refl st
+    turned i d (Raises c) e st on = last-turn i d (Raises c) e refl st
+    turned i d (Failed f) e st on = last-turn i d (Failed f) e refl st
 
     turns : (k : Stay) (now : Lent) (w : Standing (programIn t) n s before u k now) (d : Done Stay)
         → (0 < k .left → w .frame .address < codeLength (programIn t) (w .frame .method) → Paused (programIn t) n s before u d)

@@ -22,7 +22,7 @@ use Rattle.reader.specs.Sample.{bytesOf, sample}
 abbrev pub sampleProgram : Program
 sampleProgram =
     record {
-      supers = 255 ∷ 0 ∷ [];
+      supers = 255 ∷ 0 ∷ 1 ∷ 1 ∷ 1 ∷ [];
       fields = [];
       statics = 0;
       methods =
@@ -57,51 +57,60 @@ abbrev times : ℕ → String → String
 times zero s = ""
 times (suc n) s = s ++ times n s
 
--- two classes; a static method 0 without arguments that returns; n classes before it
+-- the five classes that every program has; a static method 0 without arguments that returns
 abbrev classes : String
-classes = "01ff\n0100\n"
+classes = "01ff\n0100\n0101\n0101\n0101\n"
 
 abbrev main : String
 main = "040000010100\n061100000000000000\n"
 
 abbrev rows : List Row
 rows =
-    row sample 0 2
+    row sample 0 5
     -- an empty text has no line: a class is missing at line 1
     ∷ row "" 4 1
     -- 2: another byte (a capital), odd digit count, empty line, missing line end
-    ∷ row (classes ++ "040000010100\n06110000000000000G\n") 2 4
+    ∷ row (classes ++ "040000010100\n06110000000000000G\n") 2 7
     ∷ row "01FF\n0100\n" 2 1
-    ∷ row (classes ++ "04000001010\n") 2 3
-    ∷ row (classes ++ "\n") 2 3
-    ∷ row (classes ++ "040000010100\n061100000000000000") 2 4
+    ∷ row (classes ++ "04000001010\n") 2 6
+    ∷ row (classes ++ "\n") 2 6
+    ∷ row (classes ++ "040000010100\n061100000000000000") 2 7
     -- 3: unknown kind, wrong length
     ∷ row "01ff\n0700\n" 3 2
     ∷ row "01ff\n010000\n" 3 2
     -- 4: out of order, one class only, a method without instruction, nothing after the classes
-    ∷ row (classes ++ "03\n0200\n" ++ main) 4 4
+    ∷ row (classes ++ "03\n0200\n" ++ main) 4 7
     ∷ row ("01ff\n" ++ main) 4 2
-    ∷ row (classes ++ "040000010100\n040000010100\n") 4 4
-    ∷ row classes 4 3
-    ∷ row (classes ++ "040000010100\n") 4 4
+    ∷ row (classes ++ "040000010100\n040000010100\n") 4 7
+    ∷ row classes 4 6
+    ∷ row (classes ++ "040000010100\n") 4 7
     -- 60 classes pass, 61 are 4
-    ∷ row ("01ff\n" ++ times 59 "0100\n" ++ main) 0 60
-    ∷ row ("01ff\n" ++ times 60 "0100\n" ++ main) 4 61
+    ∷ row (classes ++ times 55 "0100\n" ++ main) 0 60
+    ∷ row (classes ++ times 56 "0100\n" ++ main) 4 61
     -- 5: a superclass number equal to its own, an unused field, a register, class and name repeated
-    ∷ row ("01ff\n0101\n" ++ main) 5 2
-    ∷ row (classes ++ "040000010100\n061100000000000001\n") 5 4
-    ∷ row (classes ++ "040000010100\n061001000000000000\n") 5 4
-    ∷ row (classes ++ main ++ main) 5 5
+    ∷ row ("01ff\n0101\n0101\n0101\n0101\n" ++ main) 5 2
+    ∷ row (classes ++ "040000010100\n061100000000000001\n") 5 7
+    ∷ row (classes ++ "040000010100\n061001000000000000\n") 5 7
+    ∷ row (classes ++ main ++ main) 5 8
+    -- "under five classes is 4": two and four, where a method or a field stands, or one past the end
+    ∷ row ("01ff\n0100\n" ++ main) 4 3
+    ∷ row ("01ff\n0100\n0101\n0101\n" ++ main) 4 5
+    ∷ row ("01ff\n0100\n0101\n0101\n0200\n" ++ main) 4 5
+    ∷ row "01ff\n0100\n0101\n0101\n" 4 5
+    -- "another superclass for 2 to 4 is 5", a lower one too
+    ∷ row ("01ff\n0100\n0100\n0101\n0101\n" ++ main) 5 3
+    ∷ row ("01ff\n0100\n0101\n0102\n0101\n" ++ main) 5 4
+    ∷ row ("01ff\n0100\n0101\n0101\n0100\n" ++ main) 5 5
     -- 6: the last instruction falls through
-    ∷ row (classes ++ "040000010100\n060000000000000000\n") 6 4
+    ∷ row (classes ++ "040000010100\n060000000000000000\n") 6 7
     -- the first bad line wins: 3 at line 2 before 2 at line 3; 4 at line 4 before 5 at line 2; 6 at line 4 before 5 at line 5
     ∷ row "01ff\n0700\n\n" 3 2
-    ∷ row "01ff\n0105\n040000010100\n03\n" 4 4
-    ∷ row (classes ++ "040000010100\n060000000000000000\n040900010100\n061100000000000000\n") 6 4
+    ∷ row "01ff\n0105\n0101\n0101\n0101\n040000010100\n03\n" 4 7
+    ∷ row (classes ++ "040000010100\n060000000000000000\n040900010100\n061100000000000000\n") 6 7
     -- the lowest number on a line: 2 before 3; 3 before 4; 5 before 6
     ∷ row "01ff\n07000\n" 2 2
     ∷ row "01ff\n0200ff\n" 3 2
-    ∷ row (classes ++ "040000010100\n060000000000000001\n") 5 4
+    ∷ row (classes ++ "040000010100\n060000000000000001\n") 5 7
     ∷ []
 
 pub rows-right : allRight rows ≡ true

@@ -28,7 +28,7 @@ pub record Steady (p : Program) : Type 0 where
 -- the same of a program that may end: the last has one too
 pub record Ended (p : Program) : Type 0 where
   pub limited : Limited p
-  pub classes : 2 ≤ classCount p
+  pub classes : 5 ≤ classCount p
   pub methods : 1 ≤ methodCount p
   pub coded : (m : ℕ) → m < methodCount p → 1 ≤ codeLength p m
 

@@ -6,13 +6,14 @@ use Prim.Native.Nat.{ℕ, _+_, _-_, _≤_, _<_}
 use native.Mathlib.Omega.{arith}
 use lib.Dec.{eqb, ltb}
 use lib.ListN.{length}
-use borrow.Author.Tests.{eq-eqb, ne-eqb, eqb-true}
+use borrow.Author.Tests.{eq-eqb, ne-eqb, eqb-true, le-leb}
 use Rattle.text.specs.Hex.{linesOf}
 use Rattle.text.proofs.Cases.{by-test, never}
 use Rattle.instruction.specs.Test.{Holds}
 use Rattle.instruction.specs.Word.{fallsThrough}
-use Rattle.program.specs.Program.{Program, noProgram, methodCount, superclass, methodKind, codeLength, instructionAt}
-use Rattle.values.specs.Values.{superTest}
+use Rattle.program.specs.Program.{Program, noProgram, throwableClass, nullClass, castClass, methodCount, superclass, methodKind}
+use Rattle.program.specs.Program.{codeLength, instructionAt}
+use Rattle.values.specs.Values.{builtIn, superTest}
 use Rattle.marks.specs.Marks.{marks, firstMark}
 use Rattle.marks.specs.Valued.{Valued}
 use Rattle.marks.proofs.Clear.{clear, alone}
@@ -25,8 +26,11 @@ use Rattle.reader.proofs.Steady.{Steady, Ended, through}
 top-class : (s : ℕ) → Holds (superTest 0 s) → s ≡ 255
 top-class s h = h
 
-other-class : (c s : ℕ) → 1 ≤ c → Holds (superTest c s) → s < c
+other-class : (c s : ℕ) → 1 ≤ c → Holds (superTest c s) → (s < c) × (builtIn c ≡ true → s ≡ throwableClass)
 other-class c s l h = rw (ne-eqb c 0 (λ e. omega arith)) at h
+
+is-built-in : (c : ℕ) → nullClass ≤ c → c ≤ castClass → builtIn c ≡ true
+is-built-in c l h = rw (le-leb nullClass c l, le-leb c castClass h)
 
 -- the second of two flags, where the first is true and not both are
 second : (a b : Bool) → a ≡ true → a && b ≡ false → b ≡ false
@@ -70,7 +74,10 @@ module _ (p : Program) (e : Ended p) (v : Valued p) where
         methods-from = e .methods;
         limited = e .limited;
         top = top-class (superclass p 0) (v .classes 0 (omega (arith, e .classes)));
-        supers = λ c l low. other-class c (superclass p c) low (v .classes c l);
+        supers = λ c l low. other-class c (superclass p c) low (v .classes c l) .0;
+        built-in =
+            λ c l h.
+            other-class c (superclass p c) (omega (arith, l)) (v .classes c (omega (arith, h, e .classes))) .1 (is-built-in c l h);
         fields = v .fields;
         methods = formed-method;
         main-static = main .0;

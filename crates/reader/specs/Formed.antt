@@ -5,7 +5,9 @@ use Prim.Native.Nat.{ℕ, _-_, _≤_, _<_}
 use Rattle.instruction.specs.Test.{Holds}
 use Rattle.instruction.specs.Word.{wordOf, fallsThrough}
 use Rattle.operands.specs.Names.{named}
-use Rattle.program.specs.Program.{Program, classCount, fieldCount, methodCount, superclass, fieldClass, methodClass, methodName, methodKind, registers, arguments, codeLength, wordAt, instructionAt, handlerCount, handlerFrom, handlerTo, handlerTarget, handlerClass}
+use Rattle.program.specs.Program.{Program, throwableClass, nullClass, castClass, classCount, fieldCount, methodCount, superclass}
+use Rattle.program.specs.Program.{fieldClass, methodClass, methodName, methodKind, registers, arguments, codeLength, wordAt}
+use Rattle.program.specs.Program.{instructionAt, handlerCount, handlerFrom, handlerTo, handlerTarget, handlerClass}
 use Rattle.program.specs.Tables.{Limited}
 use Rattle.values.specs.Values.{limitsOf, callTest}
 
@@ -35,13 +37,15 @@ pub record FormedMethod (p : Program) (m : ℕ) : Type 0 where
   pub caught : (h : ℕ) → h < handlerCount p m → handlerClass p m h < classCount p
 
 pub record Formed (p : Program) : Type 0 where
-  -- 2 to 60 classes, 0 to 16 fields and statics, 1 to 16 methods
-  pub classes-from : 2 ≤ classCount p
+  -- 5 to 60 classes, 0 to 16 fields and statics, 1 to 16 methods
+  pub classes-from : 5 ≤ classCount p
   pub methods-from : 1 ≤ methodCount p
   pub limited : Limited p
   -- superclass numbers fall; class 0 has none
   pub top : superclass p 0 ≡ 255
   pub supers : (c : ℕ) → c < classCount p → 1 ≤ c → superclass p c < c
+  -- classes 2, 3 and 4 are directly below class 1
+  pub built-in : (c : ℕ) → nullClass ≤ c → c ≤ castClass → superclass p c ≡ throwableClass
   -- a field's class exists
   pub fields : (f : ℕ) → f < fieldCount p → fieldClass p f < classCount p
   pub methods : (m : ℕ) → m < methodCount p → FormedMethod p m

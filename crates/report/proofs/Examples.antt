@@ -4,7 +4,7 @@ use mathlib.Core.List.{[], _∷_, _++_}
 use Rattle.verdict.specs.declared.Verdict.the-variants.{Accepted, Violated, Refused, Short}
 use Rattle.page.specs.Digits.{digitOf}
 use Rattle.program.specs.Program.{Program}
-use Rattle.machine.specs.declared.Fault.the-variants.{DivisionByZero}
+use Rattle.machine.specs.declared.Fault.the-variants.{ObjectAsNumber}
 use Rattle.turn.specs.declared.Halt.the-variants.{Done, Uncaught, Faulted, FullStore, FullStack, StepsMade, Outside}
 use Rattle.bounded.specs.declared.Outcome.the-variants as outcome
 use Rattle.report.specs.Run.{stoppedWord, haltText, printedRun}
@@ -59,15 +59,15 @@ too-little-memory : printed Short []
 unfolding digitOf
 too-little-memory = refl
 
--- `done 00000003`; `fault 04 00000001`; `uncaught 0000000a 00`; `stopped 16 00000008 ff`, with an object pending
+-- `done 00000003`; `fault 03 00000001`; `uncaught 0000000a 00`; `stopped 16 00000008 ff`, with an object pending
 three-steps : haltText Done 3 [] ≡ 100 ∷ 111 ∷ 110 ∷ 101 ∷ 32 ∷ 48 ∷ 48 ∷ 48 ∷ 48 ∷ 48 ∷ 48 ∷ 48 ∷ 51 ∷ 10 ∷ []
 unfolding digitOf
 three-steps = refl
 
-by-zero : haltText (Faulted DivisionByZero) 1 []
-    ≡ 102 ∷ 97 ∷ 117 ∷ 108 ∷ 116 ∷ 32 ∷ 48 ∷ 52 ∷ 32 ∷ 48 ∷ 48 ∷ 48 ∷ 48 ∷ 48 ∷ 48 ∷ 48 ∷ 49 ∷ 10 ∷ []
+not-a-number : haltText (Faulted ObjectAsNumber) 1 []
+    ≡ 102 ∷ 97 ∷ 117 ∷ 108 ∷ 116 ∷ 32 ∷ 48 ∷ 51 ∷ 32 ∷ 48 ∷ 48 ∷ 48 ∷ 48 ∷ 48 ∷ 48 ∷ 48 ∷ 49 ∷ 10 ∷ []
 unfolding digitOf
-by-zero = refl
+not-a-number = refl
 
 nobody-catches : haltText Uncaught 10 (0 ∷ [])
     ≡ 117 ∷ 110 ∷ 99 ∷ 97 ∷ 117 ∷ 103 ∷ 104 ∷ 116 ∷ 32 ∷ 48 ∷ 48 ∷ 48 ∷ 48 ∷ 48 ∷ 48 ∷ 48 ∷ 97 ∷ 32 ∷ 48 ∷ 48 ∷ 10 ∷ []

@@ -62,11 +62,9 @@ stay-falls t m k h = rw (preceding-is (k .left) (more-left t k h)) (omega (arith
 
 -- a step is counted with every turn, so that one that was not made can be given back
 again-few : (e : How) (left n : ℕ) → left < n → againLeft left e ≤ n
-again-few how.Went left n l = omega arith
-again-few how.Leaves left n l =
-    pick-cases (λ k. k ≤ n) (ltb left 18446744073709551615) (left + 1) 0 (λ _. omega arith) (λ _. omega arith)
-again-few (how.Failed e) left n l =
-    pick-cases (λ k. k ≤ n) (ltb left 18446744073709551615) (left + 1) 0 (λ _. omega arith) (λ _. omega arith)
+again-few e left n l =
+    pick-cases (λ k. k ≤ n) (isWent e) left (pick (ltb left 18446744073709551615) (left + 1) 0) (λ _. omega arith)
+    (λ _. pick-cases (λ k. k ≤ n) (ltb left 18446744073709551615) (left + 1) 0 (λ _. omega arith) (λ _. omega arith))
 
 stay-few : (t : List ℕ) (i : ℕ) (m : Lent) (k : Stay) (n : ℕ) → k .left ≤ n → againLeft (k .left) (k .how) ≤ n
     → againLeft (looped goes oneDone t i m k .result .left) (looped goes oneDone t i m k .result .how) ≤ n

@@ -7,7 +7,7 @@ use native.Mathlib.Omega.{arith}
 use lib.Dec.{T as Holds, eqb, ltb, ltb→lt, lt→ltb}
 use Rattle.instruction.specs.Word.{pick}
 use Rattle.arithmetic.specs.Arithmetic.{isZero}
-use Rattle.program.specs.Program.{Program}
+use Rattle.program.specs.Program.{Program, nullClass}
 use Rattle.program.specs.Tables.{programIn}
 use Rattle.search.specs.declared.Callee.{Callee}
 use Rattle.search.specs.declared.Callee.the-variants.{Found, Missing}
@@ -15,8 +15,8 @@ use Rattle.search.specs.declared.Handling.{Handling}
 use Rattle.search.specs.declared.Handling.the-variants as handling
 use Rattle.search.specs.Search.{below, virtualCallee, handlerFor}
 use Rattle.machine.specs.declared.Effect.{Effect}
-use Rattle.machine.specs.declared.Effect.the-variants.{Make, Call, Raise, Fail}
-use Rattle.machine.specs.declared.Fault.the-variants.{NullAsObject, NumberAsObject, NoMethod, NotThrowable}
+use Rattle.machine.specs.declared.Effect.the-variants.{Make, Call, Raise, RaiseNew, Fail}
+use Rattle.machine.specs.declared.Fault.the-variants.{NumberAsObject, NoMethod, NotThrowable}
 use Rattle.machine.specs.declared.Value as machine
 use Rattle.machine.specs.declared.Value.the-variants.{Number, Reference}
 use Rattle.machine.specs.Decide.{callOf, virtualCall, throw}
@@ -25,6 +25,7 @@ use Rattle.cells.specs.Cells.{valueOf}
 use Rattle.site.specs.declared.How.{How}
 use Rattle.site.specs.declared.How.the-variants as how
 use Rattle.site.specs.Site.{aOf, bOf, cOf}
+use Rattle.site.specs.Work.{nowhere}
 use Rattle.turn.specs.declared.Status.{Status}
 use Rattle.turn.specs.declared.Status.the-variants as status
 use Rattle.turn.specs.declared.Status.the-variants.{Running, Raised, Uncaught, Failed}
@@ -33,8 +34,10 @@ use Rattle.shift.specs.declared.At.{At}
 use Rattle.shift.specs.declared.Run.{Run}
 use Rattle.shift.specs.declared.Shift.{Shift}
 use Rattle.shift.specs.declared.Stop.the-variants as stop
-use Rattle.shift.specs.Shift.{tallied, counted, stopped, withStatus, leaving, only, shifted, pendingOf, unwoundBy, handled, outsideOf, unwound}
-use Rattle.shift.specs.Stay.{isLeaves, isOpen, isNo, runsOn, exitsOf, othersBy, othersOf}
+use Rattle.shift.specs.Places.{topOf}
+use Rattle.shift.specs.Shift.{tallied, counted, stopped, withStatus, leaving, only, grownBy, shifted, pendingOf, unwoundBy, handled}
+use Rattle.shift.specs.Shift.{outsideOf, unwound}
+use Rattle.shift.specs.Stay.{isReady, makingBy, isOpen, isNo, runsOn, exitsOf, othersBy, othersOf}
 use Rattle.drive.specs.Models.{Lent, Done, done}
 use Rattle.turns.specs.Turns as turns
 use Rattle.turns.specs.Turns.{Shifting, shiftIn, shiftDone, makeShifting, staticShifting, virtualShifting, leaveShifting, throwShifting, unwindShifting, makeDone, staticDone, virtualDone, leaveDone, throwDone, fromThrow, fromExit, fromVirtual, applied, executed, unwindDone}
@@ -66,30 +69,42 @@ module _ (p : Program) (h : At) (b n : ℕ) (l : h .run .left ≤ n) where
   leaving-few : (last other : Status) → turnsOf (leaving (h .run) last other) ≤ n
   leaving-few last other = few (leaving (h .run) last other) n (λ more. omega arith)
 
-  make-few : (a k : ℕ) → Few (Make a k)
-  make-few a k =
+  grown-few : (k place to : ℕ) (e : Status) → turnsOf (grownBy h k place to e .run) ≤ n
+  grown-few k place to e =
       pick-cases (λ (e : Shift). turnsOf (e .run) ≤ n) (ltb (h .run .tally .made) 256) _ (only (stopped (h .run) stop.Store))
-      (λ _. one-fewer (tallied (h .run .tally .depth) (h .run .tally .made + 1) (h .run .tally .status))) (λ _. omega arith)
+      (λ _. one-fewer (tallied (h .run .tally .depth) (h .run .tally .made + 1) e)) (λ _. omega arith)
+
+  make-few : (a k : ℕ) → Few (Make a k)
+  make-few a k = grown-few k (topOf (h .run .tally .depth)) a (h .run .tally .status)
+
+  raise-few : (k : ℕ) → Few (RaiseNew k)
+  raise-few k = grown-few k nowhere 16 (Raised (h .run .tally .made))
+
+  making-few : (e : How) → Few (makingBy e (h .word))
+  making-few how.Went = make-few (aOf (h .word)) (bOf (h .word))
+  making-few how.Leaves = make-few (aOf (h .word)) (bOf (h .word))
+  making-few (how.Raises k) = raise-few k
+  making-few (how.Failed e) = make-few (aOf (h .word)) (bOf (h .word))
 
   call-few : (m c : ℕ) → Few (Call m c)
   call-few m c =
       pick-cases (λ (e : Shift). turnsOf (e .run) ≤ n) (ltb (h .run .tally .depth) 32) _ (only (stopped (h .run) stop.Stack))
       (λ _. one-fewer (tallied (h .run .tally .depth + 1) (h .run .tally .made) (h .run .tally .status))) (λ _. omega arith)
 
-  fail-few : (c : Bool) → Few (pick c (Fail NullAsObject) (Fail NumberAsObject))
-  fail-few true = status-few (Failed NullAsObject)
-  fail-few false = status-few (Failed NumberAsObject)
+  no-object-few : (c : Bool) → Few (pick c (RaiseNew nullClass) (Fail NumberAsObject))
+  no-object-few true = raise-few nullClass
+  no-object-few false = status-few (Failed NumberAsObject)
 
   callee-few : (q : Callee) (c : ℕ) → Few (callOf q c)
   callee-few (Found m) c = call-few m c
   callee-few Missing c = status-few (Failed NoMethod)
 
   virtual-few : (k name count c : ℕ) (v : machine.Value) → Few (virtualCall p k name count c v)
-  virtual-few k name count c (Number z) = fail-few (isZero z)
+  virtual-few k name count c (Number z) = no-object-few (isZero z)
   virtual-few k name count c (Reference o) = callee-few (virtualCallee p k name count) c
 
   throw-few : (k : ℕ) (v : machine.Value) → Few (throw p k v)
-  throw-few k (Number z) = fail-few (isZero z)
+  throw-few k (Number z) = no-object-few (isZero z)
   throw-few k (Reference o) =
       pick-cases Few (below p k 1) (Raise o) (Fail NotThrowable) (λ _. status-few (Raised o)) (λ _. status-few (Failed NotThrowable))
 
@@ -113,6 +128,7 @@ module _ (p : Program) (h : At) (b n : ℕ) (l : h .run .left ≤ n) where
   failed-few : (e : How) → turnsOf (othersBy (h .run) e) ≤ n
   failed-few how.Went = others-few
   failed-few how.Leaves = others-few
+  failed-few (how.Raises c) = others-few
   failed-few (how.Failed e) = status-few (Failed e)
 
 module _ (t : List ℕ) (m : Lent) (h : At) (n : ℕ) (l : h .run .left ≤ n) where
@@ -127,7 +143,7 @@ module _ (t : List ℕ) (m : Lent) (h : At) (n : ℕ) (l : h .run .left ≤ n) w
   throws-few =
       pick-cases Ends (eqb (h .opcode) 18) (throwDone t m h) (makeDone t m h)
       (λ _. shift-few throwShifting (throw-few (programIn t) h (turns.belowIn m h) n l (turns.classIn m h) (valueOf (turns.valueIn m h))))
-      (λ _. shift-few makeShifting (make-few (programIn t) h (turns.belowIn m h) n l (aOf (h .word)) (bOf (h .word))))
+      (λ _. shift-few makeShifting (making-few (programIn t) h (turns.belowIn m h) n l (h .how)))
 
   exits-few : Ends (fromExit t m h)
   exits-few =
@@ -150,7 +166,7 @@ module _ (t : List ℕ) (m : Lent) (h : At) (n : ℕ) (l : h .run .left ≤ n) w
 
   pub executed-few : turnsOf (executed t m h .result) ≤ n
   executed-few =
-      pick-cases Ends (isLeaves (h .how)) (applied t m h) (done (othersOf h) m) (λ _. applied-few)
+      pick-cases Ends (isReady (h .how)) (applied t m h) (done (othersOf h) m) (λ _. applied-few)
       (λ _. failed-few (programIn t) h 0 n l (h .how))
 
   pub unwind-few : turnsOf (unwindDone t m h .result) ≤ n

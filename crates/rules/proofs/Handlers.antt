@@ -1,26 +1,28 @@
 -- Rules 9 and 10 of the classes in a mask, handler by handler: each takes those that it catches of the rest. Assumes nothing.
 use mathlib.Core.Path.{_≡_, refl, sym, ap, _∙_}
 use mathlib.Core.Bool.{Bool, true, false, false≢true, not, _&&_, _||_}
-use Prim.Native.Nat.{ℕ, zero, _+_, _<_}
-use lib.Dec.{ltb}
+use Prim.Native.Nat.{ℕ, zero, _+_, _≤_, _<_}
+use lib.Dec.{eqb, ltb}
 use borrow.Author.Tests.{lt-ltb}
 use Rattle.text.proofs.Cases.{by-test}
+use Rattle.instruction.specs.declared.Instruction.the-variants.{Throw}
 use Rattle.instruction.specs.Word.{pick}
 use Rattle.instruction.proofs.Flags.{both-true, if-use, if-true}
 use Rattle.mask.specs.declared.Mask.{Mask}
-use Rattle.mask.specs.Mask.{has, subset}
+use Rattle.mask.specs.Mask.{zeroBit, has, subset}
 use Rattle.mask.proofs.Laws.{same-test, and-false, every-at, every-all, every-not, every-same, subset-at, subset-all}
 use Rattle.mask.proofs.Sets.{no-bit, subset-fails}
-use Rattle.program.specs.Program.{Program, classCount, handlerCount, handlerTarget}
+use Rattle.program.specs.Program.{Program, nullClass, classCount, handlerCount, handlerTarget}
 use Rattle.search.specs.declared.Handling.{Handling}
 use Rattle.search.specs.declared.Handling.the-variants.{Caught}
 use Rattle.search.specs.Search.{below, catches, handlerFor}
 use Rattle.flow.specs.Claim.{registerAt, resultAt, leaving, Claim}
 use Rattle.flow.specs.Flows.{Flows, kept, ifCaught, ifUncaught}
-use Rattle.flow.specs.Rules.{carried, intoHandler, intoLeaving, thrownClasses, leavingClasses}
+use Rattle.flow.specs.Rules.{carried, intoHandler, intoLeaving, thrownClasses, leavingClasses, raising}
 use Rattle.slots.specs.Layout.{maskOf}
 use Rattle.sets.proofs.Handlers.{same-classes, passed, Rest, uncaught, is-taken, taken-now, in-rest, rest-uncaught}
-use Rattle.rules.specs.Broken.{noRule, eachIn, raisedRule}
+use Rattle.rules.specs.Broken.{noRule, brokenIn, eachIn, raisedRule}
+use Rattle.rules.proofs.Own.{asked-if, raised-by, with-null}
 
 not-either : (a b : Bool) → a || b ≡ false → (a ≡ false) × (b ≡ false)
 not-either true b e = absurd (false≢true (sym e))
@@ -56,10 +58,6 @@ module _ (p : Program) (c : Claim) (m pc : ℕ) where
 
   module _ (r : ℕ) (thrown : Mask)
       (bits : (k : ℕ) → has thrown k ≡ has (c (registerAt m pc r)) k && (ltb k (classCount p) && below p k 1)) where
-    asked-if : (a b t : Bool) → not (a && b) || t ≡ not a || (not b || t)
-    asked-if true b t = refl
-    asked-if false b t = refl
-
     each-thrown : (f : ℕ → Flows) → eachIn p thrown (λ k. kept c (f k)) ≡ kept c (thrownClasses p m pc r f)
     each-thrown f =
         every-same (classCount p) (λ k. not (has thrown k) || kept c (f k))
@@ -68,12 +66,11 @@ module _ (p : Program) (c : Claim) (m pc : ℕ) where
         let is : has thrown k ≡ has (c (registerAt m pc r)) k && below p k 1 = bits k ∙ rw (lt-ltb k (classCount p) l) in
         ap (λ (t : Bool). not t || kept c (f k)) is ∙ asked-if (has (c (registerAt m pc r)) k) (below p k 1) (kept c (f k)))
 
-    pub thrown-raised : raisedRule p c m pc thrown
-        ≡ firstOf (kept c (thrownClasses p m pc r (intoHandler p m pc))) (kept c (thrownClasses p m pc r (intoLeaving p m pc)))
-    unfolding raisedRule
-    thrown-raised =
-        ap (λ (t : Bool). firstOf t (eachIn p thrown (λ k. kept c (intoLeaving p m pc k)))) (each-thrown (intoHandler p m pc))
-        ∙ ap (firstOf (kept c (thrownClasses p m pc r (intoHandler p m pc)))) (each-thrown (intoLeaving p m pc))
+    pub thrown-raised : classCount p ≤ 64 → (all : Mask)
+        → ((k : ℕ) → has all k ≡ has thrown k || (eqb k nullClass && (ltb k 64 && has (c (registerAt m pc r)) zeroBit)))
+        → raisedRule p c m pc all ≡ brokenIn c (raising p m pc (Throw r))
+    thrown-raised few all more =
+        raised-by p c m pc (Throw r) all (with-null p c m pc few r thrown all more (thrownClasses p m pc r) each-thrown)
 
 module _ (p : Program) (c : Claim) (m pc : ℕ) (mask : Mask) where
   -- rules 9 and 10 of class k, by the answer to which handler it has
@@ -178,6 +175,6 @@ module _ (p : Program) (c : Claim) (m pc : ℕ) (mask : Mask) where
         (every-at (classCount p) (λ k. not (has mask k) || kept c (intoLeaving p m pc k)) s k l)
         e))
 
-    pub raised-is : (t : Bool) → t ≡ subset rest (c (leaving m)) → (n : ℕ) → n ≡ pick t 11 10 → n ≡ raisedRule p c m pc mask
+    pub raised-is : (t : Bool) → t ≡ subset rest (c (leaving m)) → (n : ℕ) → n ≡ pick t noRule 10 → n ≡ raisedRule p c m pc mask
     unfolding raisedRule
     raised-is t e n is = is ∙ rw (all-handled, ← rest-leaves, ← e)

@@ -5,4 +5,5 @@ pub mod Dispatch
 pub mod Handlers
 pub mod Numbers
 pub mod Operand
+pub mod Own
 pub mod Receivers

@@ -7,7 +7,7 @@ use Rattle.program.specs.Program.{Program}
 use Rattle.flow.specs.Claim.{registerAt, Claim}
 use Rattle.flow.specs.Flows.{numeric, kept}
 use Rattle.flow.specs.Rules.{writes, numbersInto}
-use Rattle.rules.specs.Broken.{written, brokenIn}
+use Rattle.rules.specs.Broken.{noRule, written, brokenIn}
 
 asked-twice : (t x : Bool) → not t || (not t || x) ≡ not t || x
 asked-twice true x = refl
@@ -17,4 +17,4 @@ pub one-operand : (p : Program) (c : Claim) (m pc a b : ℕ)
     → brokenIn c (writes p m pc a (numeric (registerAt m pc b) (numeric (registerAt m pc b) (numbersInto p m pc a))))
     ≡ brokenIn c (writes p m pc a (numeric (registerAt m pc b) (numbersInto p m pc a)))
 one-operand p c m pc a b =
-    ap (written p c m pc a) (asked-twice (hasNumber (c (registerAt m pc b))) (kept c (numbersInto p m pc a)))
+    ap (λ (t : Bool). written p c m pc a t noRule) (asked-twice (hasNumber (c (registerAt m pc b))) (kept c (numbersInto p m pc a)))

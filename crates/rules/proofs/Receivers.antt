@@ -1,21 +1,23 @@
 -- The rules of a virtual call, asked of each callee that a class in the receiver leads to, as the code asks them. Assumes nothing.
 use mathlib.Core.Path.{_≡_, refl, sym, ap, _∙_}
 use mathlib.Core.Bool.{Bool, not, _&&_, _||_}
-use Prim.Native.Nat.{ℕ, suc, _-_}
-use Rattle.instruction.specs.Word.{pick}
+use Prim.Native.Nat.{ℕ, suc, _-_, _≤_}
+use lib.Dec.{eqb, ltb}
+use Rattle.instruction.specs.declared.Instruction.the-variants.{InvokeVirtual}
 use Rattle.mask.specs.declared.Mask.{Mask}
-use Rattle.mask.specs.Mask.{has, every}
+use Rattle.mask.specs.Mask.{zeroBit, has, every}
 use Rattle.mask.proofs.Laws.{every-same}
-use Rattle.program.specs.Program.{Program, classCount, methodCount}
+use Rattle.program.specs.Program.{Program, nullClass, classCount, methodCount}
 use Rattle.search.specs.Search.{virtualCallee}
 use Rattle.machine.proofs.Found.{callee-fits}
 use Rattle.flow.specs.Claim.{registerAt, leaving, Claim}
 use Rattle.flow.specs.Flows.{Flows, _&_, some, each, isFound, kept}
-use Rattle.flow.specs.Rules.{argumentInto, receiverInto, receivers, returnedInto, leavingClasses, intoHandler, intoLeaving}
+use Rattle.flow.specs.Rules.{argumentInto, receiverInto, receivers, returnedInto, leavingClasses, raising}
 use Rattle.sets.specs.Sets.{leadsTo}
 use Rattle.carry.specs.Carried.{argumentsFrom}
-use Rattle.rules.specs.Broken.{noRule, eachIn, raisedRule, calleeGiven, calleeReturned, leavesCallee}
+use Rattle.rules.specs.Broken.{brokenIn, eachIn, raisedRule, calleeGiven, calleeReturned, leavesCallee}
 use Rattle.rules.proofs.Arguments.{from-second}
+use Rattle.rules.proofs.Own.{raised-by, with-null}
 use Rattle.rules.proofs.Callees.{by-callee, by-receiver, by-leaving}
 
 module _ (p : Program) (c : Claim) (m pc n b r : ℕ) where
@@ -60,11 +62,9 @@ module _ (p : Program) (c : Claim) (m pc n b r : ℕ) where
         (by-callee (classCount p) (methodCount p) (has mask) (λ k. virtualCallee p k n b) (leadsTo p mask n b) lead
         (λ k q e. callee-fits p n b q k e .0) (λ q. kept c (leavingClasses p m pc q f)))
 
-    pub raised-kept : raisedRule p c m pc raised
-        ≡ pick (kept c (receivers p m pc n b r (λ k q. leavingClasses p m pc q (intoHandler p m pc))))
-        (pick (kept c (receivers p m pc n b r (λ k q. leavingClasses p m pc q (intoLeaving p m pc)))) noRule 10)
-        9
-    unfolding raisedRule
-    raised-kept =
-        ap (λ (t : Bool). pick t (pick (eachIn p raised (λ k. kept c (intoLeaving p m pc k))) noRule 10) 9) (by-class (intoHandler p m pc))
-        ∙ ap (λ (t : Bool). pick (kept c (receivers p m pc n b r (λ k q. leavingClasses p m pc q (intoHandler p m pc)))) (pick t noRule 10) 9) (by-class (intoLeaving p m pc))
+    pub raised-kept : classCount p ≤ 64 → (all : Mask)
+        → ((k : ℕ) → has all k ≡ has raised k || (eqb k nullClass && (ltb k 64 && has mask zeroBit)))
+        → raisedRule p c m pc all ≡ brokenIn c (raising p m pc (InvokeVirtual n b r))
+    raised-kept few all more =
+        raised-by p c m pc (InvokeVirtual n b r) all
+        (with-null p c m pc few r raised all more (λ f. receivers p m pc n b r (λ k q. leavingClasses p m pc q f)) by-class)

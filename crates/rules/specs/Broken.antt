@@ -10,23 +10,23 @@ use Rattle.program.specs.Program.{Program, classCount, codeLength}
 use Rattle.search.specs.Search.{virtualCallee}
 use Rattle.flow.specs.Claim.{leaving, Claim}
 use Rattle.flow.specs.Flows.{isFound, kept}
-use Rattle.flow.specs.Rules.{Rule, initialMemory, entry, onwardExcept, receiverInto, returnedInto, intoHandler, intoLeaving, rulesAt}
+use Rattle.flow.specs.Rules.{Rule, initialMemory, entry, onwardExcept, receiverInto, returnedInto, own, intoHandler, intoLeaving, rulesAt}
 use Rattle.flow.specs.Verdict.{Verdict, accepted, violated, firstOf, verdictOf}
 use Rattle.sets.specs.Sets.{leadsTo}
 use Rattle.carry.specs.Carried.{argumentsFrom}
 use Rattle.rules.specs.declared.Broken.{Broken}
 
--- stands for no rule: those of document 01 go to 10
+-- stands for no rule: above the number of every rule
 abbrev pub noRule : ℕ
-noRule = 11
+noRule = 255
 
 abbrev pub brokenIn : Claim → List Rule → ℕ
 brokenIn c [] = noRule
 brokenIn c (r ∷ rs) = pick (kept c (r .flows)) (brokenIn c rs) (r .number)
 
--- the rules of an instruction that writes register a, where rule 4's test came out so
-abbrev pub written : Program → Claim → ℕ → ℕ → ℕ → Bool → ℕ
-written p c m pc a ok = pick (kept c (onwardExcept p m pc a (suc pc))) (pick ok noRule 4) 2
+-- the rules of an instruction that writes register a, where rule 4's test and the later rules came out so
+abbrev pub written : Program → Claim → ℕ → ℕ → ℕ → Bool → ℕ → ℕ
+written p c m pc a ok later = pick (kept c (onwardExcept p m pc a (suc pc))) (pick ok later 4) 2
 
 -- rules 0 and 1 at address 0 of a method, where the later ones came out so
 abbrev pub atEntry : Program → Claim → ℕ → ℕ → ℕ
@@ -41,6 +41,13 @@ unfoldable pub raisedRule : Program → Claim → ℕ → ℕ → Mask → ℕ
 raisedRule p c m pc mask =
     pick (eachIn p mask (λ k. kept c (intoHandler p m pc k)))
     (pick (eachIn p mask (λ k. kept c (intoLeaving p m pc k))) noRule 10)
+    9
+
+-- rules 9 and 10 of a class that an instruction raises itself, where it may
+abbrev pub ownRule : Program → Claim → ℕ → ℕ → Bool → ℕ → ℕ
+ownRule p c m pc may k =
+    pick (not may || kept c (own p m pc k (intoHandler p m pc)))
+    (pick (not may || kept c (own p m pc k (intoLeaving p m pc))) noRule 10)
     9
 
 -- rule 6 of method q, if a class in the receiver's mask leads to it: each class that does is in its first parameter, and the other

@@ -125,7 +125,8 @@ pub fn by_receiver(
 {
     let mask = slots::register(w, m, pc, register as usize);
     let callees = take_callees(t, w, s, m, pc, mask, name, count, register);
-    let raised = raise::raised(t, w, s, m, pc, callees.raised);
+    let leaving = callees.raised;
+    let raised = raise::raised(t, w, s, m, pc, sets::add(leaving, 2, mask.has(62)));
     first(
         carry::carried(t, w, m, pc, pc + 1),
         2,

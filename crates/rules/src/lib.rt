@@ -15,7 +15,10 @@ mod raise;
 mod step;
 mod write;
 
-// The first broken rule and its place; rule 11 and zeros where none is broken.
+// What is told where no rule is broken: above the number of every rule.
+pub const NO_RULE: usize = 255;
+
+// The first broken rule and its place; NO_RULE and zeros where none is broken.
 pub struct Broken {
     pub rule: usize,
     pub method: usize,
@@ -42,12 +45,12 @@ fn of_instruction(
         Instruction::If { target, .. } => step::to_both(t, w, m, pc, target),
         Instruction::IfZero { target, .. } => step::to_both(t, w, m, pc, target),
         Instruction::Binop {
+            operation,
             to,
             left,
             right,
-            ..
-        } => write::binary(t, w, m, pc, to, left, right),
-        Instruction::Unop { to, from, .. } => write::binary(t, w, m, pc, to, from, from),
+        } => write::binary(t, w, s, m, pc, operation, to, left, right),
+        Instruction::Unop { to, from, .. } => write::unary(t, w, m, pc, to, from),
         Instruction::NewInstance { to, class } => write::made(t, w, m, pc, to, class),
         Instruction::Iget { to, object, field } => write::field_read(
             t,
@@ -119,7 +122,7 @@ fn none() -> Broken
     ensures value { λ r. ⌜ r ≡ brokenOf accepted ⌝ }
 {
     Broken {
-        rule: 11,
+        rule: NO_RULE,
         method: 0,
         address: 0,
     }
@@ -134,7 +137,7 @@ fn in_method(t: &[u64; 768], w: &[u64; 9712], s: &[u64; 80], m: usize) -> Broken
     let mut pc: usize = 0;
     while pc < n {
         let rule = at_address(t, w, s, m, pc);
-        if rule != 11 {
+        if rule != NO_RULE {
             return Broken {
                 rule,
                 method: m,
@@ -155,7 +158,7 @@ fn first_by(t: &[u64; 768], w: &[u64; 9712], s: &[u64; 80]) -> Broken
     let mut m: usize = 0;
     while m < n {
         let broken = in_method(t, w, s, m);
-        if broken.rule != 11 {
+        if broken.rule != NO_RULE {
             return broken;
         }
         m += 1;

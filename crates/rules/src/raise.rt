@@ -1,4 +1,5 @@
-// Rules 9 and 10 of the exceptions that are raised at an address, by a throw or by a callee: those in a mask.
+// Rules 9 and 10 of the exceptions that are raised at an address, by the instruction or by a callee: those in a mask.
+use crate::NO_RULE;
 use crate::step::first;
 use mask::Mask;
 ghost use mathlib.Core.Path.{_≡_};
@@ -11,7 +12,7 @@ ghost use Rattle.flow.specs.Flows.{kept};
 ghost use Rattle.flow.specs.Rules.{carried};
 ghost use Rattle.slots.specs.Layout.{maskOf, claimIn};
 ghost use Rattle.sets.specs.Sets.{setsOf};
-ghost use Rattle.rules.specs.Broken.{raisedRule};
+ghost use Rattle.rules.specs.Broken.{raisedRule, ownRule};
 
 // Whether registers go into an address, and the classes in a mask into its result, if there are any.
 fn goes_into(t: &[u64; 768], w: &[u64; 9712], m: usize, pc: usize, mask: Mask, to: usize) -> bool
@@ -53,5 +54,25 @@ pub fn raised(
         rest = rest.without(taken);
         h += 1;
     }
-    first(rest.subset(slots::leaving(w, m)), 10, 11)
+    first(rest.subset(slots::leaving(w, m)), 10, NO_RULE)
+}
+
+// The first broken of rules 9 and 10, of a class that an instruction raises itself, where it may.
+pub fn own(
+    t: &[u64; 768],
+    w: &[u64; 9712],
+    s: &[u64; 80],
+    m: usize,
+    pc: usize,
+    may: bool,
+    class: usize,
+) -> usize
+    requires { ⌜ now s ≡ setsOf (programIn (now t)) ⌝ }
+    ensures value { λ r. ⌜ r ≡ ownRule (programIn (now (t .entry))) (claimIn (now (w .entry))) m pc may class ⌝ }
+{
+    if may {
+        let none = Mask { bits: 0 };
+        return raised(t, w, s, m, pc, sets::add(none, class, may));
+    }
+    NO_RULE
 }

@@ -1,11 +1,11 @@
 // Rules of instructions that write no register: where they go on to, what they store, return and throw.
+use crate::NO_RULE;
 use crate::raise;
 ghost use mathlib.Core.Path.{_≡_};
 ghost use mathlib.Core.List.{[], _∷_};
 ghost use Prim.Native.Nat.{ℕ, _<_};
 ghost use Rattle.instruction.specs.Word.{pick};
 ghost use Rattle.instruction.specs.declared.Instruction.the-variants.{Iput, Sput, Return, ReturnVoid, Throw};
-ghost use Rattle.mask.specs.Mask.{has};
 ghost use Rattle.program.specs.Tables.{programIn};
 ghost use Rattle.flow.specs.Rules.{toNext, toTarget, rulesOf};
 ghost use Rattle.slots.specs.Layout.{claimIn};
@@ -23,13 +23,13 @@ pub fn to_next(t: &[u64; 768], w: &[u64; 9712], m: usize, pc: usize) -> usize
     requires { ⌜ pc < 32 ⌝ }
     ensures value { λ r. ⌜ r ≡ brokenIn (claimIn (now (w .entry))) (toNext (programIn (now (t .entry))) m pc ∷ []) ⌝ }
 {
-    first(carry::onward(t, w, m, pc, pc + 1), 2, 11)
+    first(carry::onward(t, w, m, pc, pc + 1), 2, NO_RULE)
 }
 
 pub fn to_target(t: &[u64; 768], w: &[u64; 9712], m: usize, pc: usize, target: u32) -> usize
     ensures value { λ r. ⌜ r ≡ brokenIn (claimIn (now (w .entry))) (toTarget (programIn (now (t .entry))) m pc target ∷ []) ⌝ }
 {
-    first(carry::onward(t, w, m, pc, target as usize), 3, 11)
+    first(carry::onward(t, w, m, pc, target as usize), 3, NO_RULE)
 }
 
 pub fn to_both(t: &[u64; 768], w: &[u64; 9712], m: usize, pc: usize, target: u32) -> usize
@@ -63,7 +63,12 @@ pub fn field_written(
     let value = slots::register(w, m, pc, from as usize);
     let having = sets::with_field(t, s, mask, field);
     let stored = classes::into_fields(w, having, field as usize, value);
-    first(carry::onward(t, w, m, pc, pc + 1), 2, first(stored, 5, 11))
+    let raised = raise::own(t, w, s, m, pc, mask.has(62), 2);
+    first(
+        carry::onward(t, w, m, pc, pc + 1),
+        2,
+        first(stored, 5, raised),
+    )
 }
 
 pub fn static_written(
@@ -79,20 +84,24 @@ pub fn static_written(
 {
     let value = slots::register(w, m, pc, from as usize);
     let stored = value.subset(slots::of_static(w, place as usize));
-    first(carry::onward(t, w, m, pc, pc + 1), 2, first(stored, 5, 11))
+    first(
+        carry::onward(t, w, m, pc, pc + 1),
+        2,
+        first(stored, 5, NO_RULE),
+    )
 }
 
 pub fn returned(t: &[u64; 768], w: &[u64; 9712], m: usize, pc: usize, from: u8) -> usize
     ensures value { λ r. ⌜ r ≡ brokenIn (claimIn (now (w .entry))) (rulesOf (programIn (now (t .entry))) m pc (Return from)) ⌝ }
 {
     let value = slots::register(w, m, pc, from as usize);
-    first(value.subset(slots::returned(w, m)), 8, 11)
+    first(value.subset(slots::returned(w, m)), 8, NO_RULE)
 }
 
 pub fn returned_void(t: &[u64; 768], w: &[u64; 9712], m: usize, pc: usize) -> usize
     ensures value { λ r. ⌜ r ≡ brokenIn (claimIn (now (w .entry))) (rulesOf (programIn (now (t .entry))) m pc ReturnVoid) ⌝ }
 {
-    first(slots::returned(w, m).has(62), 8, 11)
+    first(slots::returned(w, m).has(62), 8, NO_RULE)
 }
 
 pub fn thrown(
@@ -108,5 +117,6 @@ pub fn thrown(
 {
     let mask = slots::register(w, m, pc, from as usize);
     let throwable = mask.common(sets::below(s, 1));
-    raise::raised(t, w, s, m, pc, throwable)
+    let raised = sets::add(throwable, 2, mask.has(62));
+    raise::raised(t, w, s, m, pc, raised)
 }

@@ -1,29 +1,41 @@
-// Rules of instructions that write a register (2 and 4).
+// Rules of instructions that write a register (2 and 4, and 9 and 10 of what they raise).
+use crate::NO_RULE;
+use crate::raise;
 use crate::step::first;
+use instruction::Operation;
 use mask::Mask;
 use operands::both;
 ghost use mathlib.Core.Path.{_≡_};
 ghost use mathlib.Core.Bool.{not, _&&_, _||_};
 ghost use Prim.Native.Nat.{ℕ, _<_};
-ghost use Rattle.instruction.specs.declared.Instruction.the-variants.{Move, Const, NewInstance, Iget, Sget, MoveResult, CheckCast};
+ghost use Rattle.instruction.specs.declared.Instruction.the-variants.{Move, Const, Binop, NewInstance, Iget, Sget, MoveResult};
+ghost use Rattle.instruction.specs.declared.Instruction.the-variants.{InstanceOf, CheckCast};
 ghost use Rattle.mask.specs.Mask.{has, hasNumber};
 ghost use Rattle.program.specs.Tables.{programIn};
 ghost use Rattle.flow.specs.Claim.{registerAt, numberBit};
-ghost use Rattle.flow.specs.Flows.{numeric};
+ghost use Rattle.flow.specs.Flows.{numeric, kept};
 ghost use Rattle.flow.specs.Rules.{writes, numbersInto, rulesOf};
 ghost use Rattle.slots.specs.Layout.{claimIn};
 ghost use Rattle.sets.specs.Sets.{setsOf};
 ghost use Rattle.rules.specs.Broken.{written, brokenIn};
 
-// Rules 2 and 4, where rule 4's test came out so.
-fn written(t: &[u64; 768], w: &[u64; 9712], m: usize, pc: usize, a: u8, ok: bool) -> usize
+// Rules 2 and 4, where rule 4's test and the later rules came out so.
+fn written(
+    t: &[u64; 768],
+    w: &[u64; 9712],
+    m: usize,
+    pc: usize,
+    a: u8,
+    ok: bool,
+    later: usize,
+) -> usize
     requires { ⌜ pc < 32 ⌝ }
-    ensures value { λ r. ⌜ r ≡ written (programIn (now (t .entry))) (claimIn (now (w .entry))) m pc a ok ⌝ }
+    ensures value { λ r. ⌜ r ≡ written (programIn (now (t .entry))) (claimIn (now (w .entry))) m pc a ok later ⌝ }
 {
     first(
         carry::onward_except(t, w, m, pc, a as usize, pc + 1),
         2,
-        first(ok, 4, 11),
+        first(ok, 4, later),
     )
 }
 
@@ -33,7 +45,7 @@ pub fn moved(t: &[u64; 768], w: &[u64; 9712], m: usize, pc: usize, to: u8, from:
 {
     let value = slots::register(w, m, pc, from as usize);
     let into = slots::register(w, m, pc + 1, to as usize);
-    written(t, w, m, pc, to, value.subset(into))
+    written(t, w, m, pc, to, value.subset(into), NO_RULE)
 }
 
 // The bit of a number.
@@ -48,7 +60,7 @@ pub fn constant(t: &[u64; 768], w: &[u64; 9712], m: usize, pc: usize, to: u8, va
     ensures value { λ r. ⌜ r ≡ brokenIn (claimIn (now (w .entry))) (rulesOf (programIn (now (t .entry))) m pc (Const to value)) ⌝ }
 {
     let into = slots::register(w, m, pc + 1, to as usize);
-    written(t, w, m, pc, to, into.has(bit_of(value)))
+    written(t, w, m, pc, to, into.has(bit_of(value)), NO_RULE)
 }
 
 // Whether a mask has both numbers' bits.
@@ -70,8 +82,8 @@ fn of_numbers(left: Mask, right: Mask, into: Mask) -> bool
     true
 }
 
-// An instruction of one operand has it twice.
-pub fn binary(
+// Rules 2 and 4 of numbers out of two registers, where the later rules came out so.
+fn of_both(
     t: &[u64; 768],
     w: &[u64; 9712],
     m: usize,
@@ -79,17 +91,53 @@ pub fn binary(
     to: u8,
     left: u8,
     right: u8,
+    later: usize,
 ) -> usize
     requires { ⌜ pc < 32 ⌝ }
     ensures value { λ r.
         let p = programIn (now (t .entry)) in
         let c = claimIn (now (w .entry)) in
-        ⌜ r ≡ brokenIn c (writes p m pc to (numeric (registerAt m pc left) (numeric (registerAt m pc right) (numbersInto p m pc to)))) ⌝ }
+        ⌜ r ≡ written p c m pc to
+        (kept c (numeric (registerAt m pc left) (numeric (registerAt m pc right) (numbersInto p m pc to)))) later ⌝ }
 {
     let a = slots::register(w, m, pc, left as usize);
     let b = slots::register(w, m, pc, right as usize);
     let into = slots::register(w, m, pc + 1, to as usize);
-    written(t, w, m, pc, to, of_numbers(a, b, into))
+    written(t, w, m, pc, to, of_numbers(a, b, into), later)
+}
+
+pub fn binary(
+    t: &[u64; 768],
+    w: &[u64; 9712],
+    s: &[u64; 80],
+    m: usize,
+    pc: usize,
+    operation: Operation,
+    to: u8,
+    left: u8,
+    right: u8,
+) -> usize
+    requires { ⌜ (pc < 32) × (now s ≡ setsOf (programIn (now t))) ⌝ }
+    ensures value { λ r.
+        let p = programIn (now (t .entry)) in
+        let c = claimIn (now (w .entry)) in
+        ⌜ r ≡ brokenIn c (rulesOf p m pc (Binop operation to left right)) ⌝ }
+{
+    let divisor = slots::register(w, m, pc, right as usize);
+    let by_zero = both(arithmetic::divides(operation), divisor.has(62));
+    let raised = raise::own(t, w, s, m, pc, by_zero, 3);
+    of_both(t, w, m, pc, to, left, right, raised)
+}
+
+// An instruction of one operand has it twice.
+pub fn unary(t: &[u64; 768], w: &[u64; 9712], m: usize, pc: usize, to: u8, from: u8) -> usize
+    requires { ⌜ pc < 32 ⌝ }
+    ensures value { λ r.
+        let p = programIn (now (t .entry)) in
+        let c = claimIn (now (w .entry)) in
+        ⌜ r ≡ brokenIn c (writes p m pc to (numeric (registerAt m pc from) (numbersInto p m pc to))) ⌝ }
+{
+    of_both(t, w, m, pc, to, from, from, NO_RULE)
 }
 
 pub fn made(t: &[u64; 768], w: &[u64; 9712], m: usize, pc: usize, to: u8, class: u8) -> usize
@@ -97,7 +145,7 @@ pub fn made(t: &[u64; 768], w: &[u64; 9712], m: usize, pc: usize, to: u8, class:
     ensures value { λ r. ⌜ r ≡ brokenIn (claimIn (now (w .entry))) (rulesOf (programIn (now (t .entry))) m pc (NewInstance to class)) ⌝ }
 {
     let into = slots::register(w, m, pc + 1, to as usize);
-    written(t, w, m, pc, to, into.has(class as usize))
+    written(t, w, m, pc, to, into.has(class as usize), NO_RULE)
 }
 
 pub fn field_read(
@@ -117,7 +165,8 @@ pub fn field_read(
     let into = slots::register(w, m, pc + 1, to as usize);
     let having = sets::with_field(t, s, mask, field);
     let read = classes::from_fields(w, having, field as usize, into);
-    written(t, w, m, pc, to, read)
+    let raised = raise::own(t, w, s, m, pc, mask.has(62), 2);
+    written(t, w, m, pc, to, read, raised)
 }
 
 pub fn static_read(t: &[u64; 768], w: &[u64; 9712], m: usize, pc: usize, to: u8, place: u8) -> usize
@@ -126,7 +175,7 @@ pub fn static_read(t: &[u64; 768], w: &[u64; 9712], m: usize, pc: usize, to: u8,
 {
     let value = slots::of_static(w, place as usize);
     let into = slots::register(w, m, pc + 1, to as usize);
-    written(t, w, m, pc, to, value.subset(into))
+    written(t, w, m, pc, to, value.subset(into), NO_RULE)
 }
 
 // Of move-result, and of move-exception.
@@ -136,7 +185,7 @@ pub fn result_read(t: &[u64; 768], w: &[u64; 9712], m: usize, pc: usize, to: u8)
 {
     let value = slots::result(w, m, pc);
     let into = slots::register(w, m, pc + 1, to as usize);
-    written(t, w, m, pc, to, value.subset(into))
+    written(t, w, m, pc, to, value.subset(into), NO_RULE)
 }
 
 pub fn numbers(t: &[u64; 768], w: &[u64; 9712], m: usize, pc: usize, to: u8) -> usize
@@ -147,7 +196,7 @@ pub fn numbers(t: &[u64; 768], w: &[u64; 9712], m: usize, pc: usize, to: u8) -> 
         ⌜ r ≡ brokenIn c (writes p m pc to (numbersInto p m pc to)) ⌝ }
 {
     let into = slots::register(w, m, pc + 1, to as usize);
-    written(t, w, m, pc, to, both_numbers(into))
+    written(t, w, m, pc, to, both_numbers(into), NO_RULE)
 }
 
 // What passes a cast of a mask to a class, but for its classes: zero.
@@ -175,12 +224,8 @@ pub fn cast(
     let mask = slots::register(w, m, pc, register as usize);
     let into = slots::register(w, m, pc + 1, register as usize);
     let passing = mask.common(sets::below(s, class as usize));
-    written(
-        t,
-        w,
-        m,
-        pc,
-        register,
-        both(zero_passes(mask, into), passing.subset(into)),
-    )
+    let ok = both(zero_passes(mask, into), passing.subset(into));
+    let fails = sets::fails_cast(t, s, mask, class as usize);
+    let raised = raise::own(t, w, s, m, pc, fails, 4);
+    written(t, w, m, pc, register, ok, raised)
 }

@@ -3,7 +3,7 @@
 --     0 to 59     of each class those at or below it
 --     60 to 63    all classes
 --     64 to 79    of each method those that lead to it, called by its own name and argument count
-use mathlib.Core.Bool.{Bool, true, _&&_}
+use mathlib.Core.Bool.{Bool, true, not, _&&_}
 use mathlib.Core.List.{List}
 use Prim.Native.Nat.{ℕ, _-_}
 use lib.Dec.{ltb}
@@ -22,6 +22,10 @@ leads p q k = isFound (virtualCallee p k (methodName p q) (arguments p q)) q
 -- a class in the mask leads to method q, called by this name and argument count
 unfoldable pub leadsTo : Program → Mask → ℕ → ℕ → ℕ → Bool
 leadsTo p mask name count q = some (classCount p) (λ k. has mask k && isFound (virtualCallee p k name count) q)
+
+-- a class in the mask is not at or below class k
+unfoldable pub failsCast : Program → Mask → ℕ → Bool
+failsCast p mask k = some (classCount p) (λ j. has mask j && not (below p j k))
 
 -- class k of the program is in set j
 unfoldable pub isIn : Program → ℕ → ℕ → Bool

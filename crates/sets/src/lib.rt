@@ -12,7 +12,7 @@ ghost use Rattle.mask.specs.Mask.{has};
 ghost use Rattle.program.specs.Program.{classCount};
 ghost use Rattle.program.specs.Tables.{programIn};
 ghost use Rattle.search.specs.Search.{below, hasField, catches};
-ghost use Rattle.sets.specs.Sets.{setWord, setsOf};
+ghost use Rattle.sets.specs.Sets.{setWord, failsCast, setsOf};
 ghost use Rattle.sets.specs.Inside.{aboveIn, belowBy, named, belowSet, classSet, leadingSet};
 
 // The set, with class k if it is to be in it.
@@ -126,6 +126,17 @@ pub fn with_field(t: &[u64; 768], s: &[u64; 80], mask: Mask, field: u8) -> Mask
         ⌜ (now (s .entry) ≡ setsOf p → (k : ℕ) → has r k ≡ has mask k && (ltb k (classCount p) && hasField p k field)) ⌝ }
 {
     mask.common(below(s, program::field_class(t, field as usize)))
+}
+
+// Whether a class in a mask is not at or below class c.
+pub fn fails_cast(t: &[u64; 768], s: &[u64; 80], mask: Mask, c: usize) -> bool
+    ensures value { λ r.
+        let p = programIn (now (t .entry)) in
+        ⌜ (now (s .entry) ≡ setsOf p → r ≡ failsCast p mask c) ⌝ }
+{
+    let inside = mask.common(classes(s));
+    let others = inside.without(below(s, c));
+    !others.subset(Mask { bits: 0 })
 }
 
 // The classes in a mask that handler h catches at an address.

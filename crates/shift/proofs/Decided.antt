@@ -1,4 +1,4 @@
--- What a virtual call and a throw decide: a call or a fault, an object that is pending or a fault. Assumes nothing.
+-- What a virtual call and a throw decide: a call, an object that is pending, a new one that is raised, or a fault. Assumes nothing.
 use mathlib.Core.Path.{_≡_}
 use mathlib.Core.Bool.{Bool, true, false}
 use mathlib.Core.List.{List, [], _∷_}
@@ -19,7 +19,7 @@ use Rattle.machine.specs.declared.Effect.the-variants.{Raise, Fail}
 use Rattle.machine.specs.Decide.{notObject, callOf, virtualCall, throw}
 use Rattle.machine.proofs.Effect.{the-type}
 
--- the effects that are neither a call nor a fault, neither a raise nor a fault
+-- the effects that a virtual call does not decide, and those that a throw does not
 abbrev uncalled : List ℕ
 uncalled = 0 ∷ 1 ∷ 2 ∷ 3 ∷ 4 ∷ 5 ∷ 6 ∷ 7 ∷ 9 ∷ 10 ∷ []
 

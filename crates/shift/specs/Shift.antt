@@ -72,26 +72,37 @@ only k =
       run = k;
     }
 
--- an object is made, unless 256 are, and a register refers to it
-abbrev pub madeBy : At → ℕ → ℕ → Shift
-madeBy h a k =
-    pick (ltb (h .run .tally .made) 256)
-    (record {
+-- one object more, of class k: the frame at a place goes one on, and its register `to` refers to the object
+abbrev pub oneMore : At → ℕ → ℕ → ℕ → Status → Shift
+oneMore h k place to status =
+    record {
       popped = nowhere;
       resumed = nowhere;
       value = referenceOf (h .run .tally .made);
-      moved = topOf (h .run .tally .depth);
+      moved = place;
       next = h .pc + 1;
       made = h .run .tally .made;
       class = k;
-      wrote = topOf (h .run .tally .depth);
-      to = a;
+      wrote = place;
+      to = to;
       pass = noPass;
       entered = nowhere;
       method = 0;
-      run = counted (h .run) (tallied (h .run .tally .depth) (h .run .tally .made + 1) (h .run .tally .status));
-    })
-    (only (stopped (h .run) stop.Store))
+      run = counted (h .run) (tallied (h .run .tally .depth) (h .run .tally .made + 1) status);
+    }
+
+-- unless 256 are
+abbrev pub grownBy : At → ℕ → ℕ → ℕ → Status → Shift
+grownBy h k place to status =
+    pick (ltb (h .run .tally .made) 256) (oneMore h k place to status) (only (stopped (h .run) stop.Store))
+
+-- new-instance: register a of the top frame refers to it
+abbrev pub madeBy : At → ℕ → ℕ → Shift
+madeBy h a k = grownBy h k (topOf (h .run .tally .depth)) a (h .run .tally .status)
+
+-- it is pending, and no frame changes
+abbrev pub raisedNewBy : At → ℕ → Shift
+raisedNewBy h k = grownBy h k nowhere 16 (Raised (h .run .tally .made))
 
 -- a frame of method m is opened, unless 32 are; its arguments stand in registers from c on
 abbrev pub skippedOf : Program → ℕ → ℕ
@@ -163,6 +174,7 @@ shifted p h b (effect.StoreStatic x v) = only (h .run)
 shifted p h b (effect.Call m c) = calledBy p h m c
 shifted p h b (effect.Exit v) = exitedBy h b v
 shifted p h b (effect.Raise o) = only (withStatus (h .run) (Raised o))
+shifted p h b (effect.RaiseNew k) = raisedNewBy h k
 shifted p h b (effect.Fail e) = only (withStatus (h .run) (Failed e))
 
 -- what a return gives: a register's value, or null

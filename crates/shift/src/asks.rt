@@ -7,7 +7,7 @@ use site::How;
 use turn::Status;
 ghost use mathlib.Core.Path.{_≡_};
 ghost use lib.Dec.{eqb};
-ghost use Rattle.shift.specs.Stay.{raisedAt, runsOn, isRunning, isLeaves, othersOf, exitsOf};
+ghost use Rattle.shift.specs.Stay.{raisedAt, runsOn, isRunning, isReady, othersOf, exitsOf};
 
 // A run with an object pending: it is looked at as a throw is.
 pub fn raised_at(run: Run) -> At
@@ -53,15 +53,16 @@ pub fn is_running(run: Run) -> bool
     false
 }
 
-// Whether the instruction is one that does not stay in its frame.
+// Whether the instruction is one that does not stay in its frame, or raises a new object.
 pub fn ready(h: At) -> bool
-    ensures value { λ r. ⌜ r ≡ isLeaves (h .how) ⌝ }
+    ensures value { λ r. ⌜ r ≡ isReady (h .how) ⌝ }
 {
     let how = h.how;
-    if let How::Leaves = how {
-        return true;
+    match how {
+        How::Leaves => true,
+        How::Raises(class) => true,
+        _ => false,
     }
-    false
 }
 
 // A run that comes to no such instruction: to a fault, to an address outside its method, or to its last step.

@@ -7,12 +7,11 @@ use super::Stop;
 use super::below_of;
 use super::counts;
 use super::top_of;
-use machine::Effect;
 use turn::Status;
 use turn::Tally;
 ghost use mathlib.Core.Path.{_≡_};
 ghost use Rattle.program.specs.Tables.{programIn};
-ghost use Rattle.shift.specs.Shift.{only, followingOf, noPass, skippedOf, passTo, madeBy, calledBy, exitedBy, shifted};
+ghost use Rattle.shift.specs.Shift.{only, followingOf, noPass, skippedOf, passTo, grownBy, madeBy, raisedNewBy, calledBy, exitedBy};
 
 pub fn no_pass() -> Pass
     ensures value { λ r. ⌜ r ≡ noPass ⌝ }
@@ -47,9 +46,9 @@ pub fn only(run: Run) -> Shift
     }
 }
 
-// new-instance: an object is made, unless 256 are, and register `to` refers to it.
-pub fn made(h: At, to: u8, class: u8) -> Shift
-    ensures value { λ r. ⌜ r ≡ madeBy h to class ⌝ }
+// One object more, unless 256 are: the frame at `place` goes one on, and its register `to` refers to the object.
+fn grown(h: At, class: u8, place: usize, to: usize, status: Status) -> Shift
+    ensures value { λ r. ⌜ r ≡ grownBy h class place to status ⌝ }
 {
     let run = h.run;
     let tally = run.tally;
@@ -58,9 +57,7 @@ pub fn made(h: At, to: u8, class: u8) -> Shift
         return only(counts::stopped(run, Stop::Store));
     }
     let depth = tally.depth;
-    let status = tally.status;
-    let top = top_of(depth);
-    let grown = Tally {
+    let more = Tally {
         depth,
         made: made + 1,
         status,
@@ -69,17 +66,34 @@ pub fn made(h: At, to: u8, class: u8) -> Shift
         popped: 18446744073709551615,
         resumed: 18446744073709551615,
         value: cells::reference(made),
-        moved: top,
+        moved: place,
         next: h.pc as u32 + 1,
         made: made as usize,
         class: class as u32,
-        wrote: top,
-        to: to as usize,
+        wrote: place,
+        to,
         pass: no_pass(),
         entered: 18446744073709551615,
         method: 0,
-        run: counts::counted(run, grown),
+        run: counts::counted(run, more),
     }
+}
+
+// new-instance: register `to` of the top frame refers to the object.
+pub fn made(h: At, to: u8, class: u8) -> Shift
+    ensures value { λ r. ⌜ r ≡ madeBy h to class ⌝ }
+{
+    let tally = h.run.tally;
+    let status = tally.status;
+    grown(h, class, top_of(tally.depth), to as usize, status)
+}
+
+// The object is pending, and no frame changes.
+pub fn raised_new(h: At, class: u8) -> Shift
+    ensures value { λ r. ⌜ r ≡ raisedNewBy h class ⌝ }
+{
+    let made = h.run.tally.made;
+    grown(h, class, 18446744073709551615, 16, Status::Raised(made))
 }
 
 // The registers of a method before its arguments.

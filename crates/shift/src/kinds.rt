@@ -1,24 +1,30 @@
-// What each kind of instruction comes to that does not stay in its frame, of a register, the class of its object, the place of
-// its frame and the address of the frame below.
+// What each kind of instruction comes to that does not stay in its frame, and one that raises a new object: of a register, the
+// class of its object, the place of its frame and the address of the frame below.
 use super::At;
 use super::Shift;
 use super::counts;
 use super::effects;
 use cells::Value;
 use machine::Effect;
+use site::How;
 use turn::Status;
 ghost use mathlib.Core.Path.{_≡_};
-ghost use Rattle.machine.specs.declared.Effect.the-variants.{Make, Call, Exit};
+ghost use Rattle.machine.specs.declared.Effect.the-variants.{Call, Exit};
 ghost use Rattle.machine.specs.Decide.{virtualCall, throw};
 ghost use Rattle.program.specs.Tables.{programIn};
 ghost use Rattle.cells.specs.Cells.{valueOf};
 ghost use Rattle.site.specs.Site.{aOf, bOf, cOf};
 ghost use Rattle.shift.specs.Shift.{returnedIn, shifted};
+ghost use Rattle.shift.specs.Stay.{makingBy};
 
-// new-instance.
+// An instruction that raises a new object, or new-instance.
 pub fn make_shift(t: &[u64; 768], h: At, m: u32, a: u32, below: u32, x: Value, class: u32) -> Shift
-    ensures value { λ r. ⌜ r ≡ shifted (programIn (now (t .entry))) h below (Make (aOf (h .word)) (bOf (h .word))) ⌝ }
+    ensures value { λ r. ⌜ r ≡ shifted (programIn (now (t .entry))) h below (makingBy (h .how) (h .word)) ⌝ }
 {
+    let how = h.how;
+    if let How::Raises(class) = how {
+        return effects::raised_new(h, class);
+    }
     effects::made(h, site::field_a(h.word), site::field_b(h.word))
 }
 
@@ -60,6 +66,7 @@ pub fn virtual_shift(
     let run = h.run;
     match e {
         Effect::Call { method, first } => effects::called(t, h, method, first),
+        Effect::RaiseNew { class } => effects::raised_new(h, class),
         Effect::Fail { fault } => effects::only(counts::with_status(run, Status::Failed(fault))),
         _ => effects::only(run),
     }
@@ -90,6 +97,7 @@ pub fn throw_shift(t: &[u64; 768], h: At, m: u32, a: u32, below: u32, x: Value, 
     let run = h.run;
     match e {
         Effect::Raise { object } => effects::only(counts::with_status(run, Status::Raised(object))),
+        Effect::RaiseNew { class } => effects::raised_new(h, class),
         Effect::Fail { fault } => effects::only(counts::with_status(run, Status::Failed(fault))),
         _ => effects::only(run),
     }

@@ -24,33 +24,36 @@ use Rattle.machine.specs.Shaped.{Shaped, Fitting}
 use Rattle.machine.proofs.Continues as continues
 use Rattle.machine.proofs.Continues.{effectAt, step-running}
 use Rattle.instruction.proofs.Flags.{pick-cases}
-use Rattle.machine.proofs.Fitting.{method-exists, top-shaped, decided-fits}
+use Rattle.machine.proofs.Fitting.{top-shaped, decided-fits}
 use Rattle.turn.specs.declared.Status.{Status}
 use Rattle.turn.specs.declared.Status.the-variants.{Running, Raised, Done, Uncaught, Failed}
 use Rattle.turn.specs.Stop.{room, stopOf}
+use Rattle.turn.proofs.Stops.{running-stop}
 use Rattle.cells.specs.Cells.{valueOf}
 use Rattle.cells.proofs.Values.{reads}
-use Rattle.site.specs.Site.{opcodeOf, aOf, bOf, cOf, leavesBy, leavesOf}
+use Rattle.site.specs.declared.How.{How}
+use Rattle.site.specs.declared.How.the-variants as how
+use Rattle.site.specs.Site.{opcodeOf, aOf, bOf, cOf, leavesBy}
 use Rattle.shift.specs.declared.At.{At}
 use Rattle.shift.specs.declared.Run.{Run}
 use Rattle.shift.specs.declared.Stop.the-variants as stop
 use Rattle.shift.specs.Places.{lookOf}
 use Rattle.shift.specs.Shift.{shifted, returnedIn}
-use Rattle.shift.specs.Stay.{exitsOf}
+use Rattle.shift.specs.Stay.{isReady, makingBy, exitsOf}
 use Rattle.drive.specs.Models as drive
 use Rattle.drive.specs.Models.{Lent}
 use Rattle.turns.specs.Turns.{Shifting, shiftIn, shiftDone, belowIn, valueIn, classIn, makeShifting, staticShifting, virtualShifting, leaveShifting, throwShifting, makeDone, staticDone, virtualDone, leaveDone, throwDone, fromThrow, fromExit, fromVirtual, applied}
 use Rattle.lies.specs.Lies.{statusOf, Roomy, Lies}
-use Rattle.lies.specs.Staying.{siteAt}
+use Rattle.lies.specs.Staying.{LeftBy}
 use Rattle.lies.proofs.Registers.{registers-few}
 use Rattle.shifting.specs.Shifting.{Come, Shifted, written, Topped, Leaving}
 use Rattle.shifting.proofs.Looked.{below-in, value-in, class-in}
 use Rattle.shifting.proofs.Written.{done-written}
-use Rattle.shifting.proofs.Ways.{running-stop}
-use Rattle.shifting.proofs.Made.{make-lies, status-lies}
+use Rattle.shifting.proofs.Made.{make-lies, raise-lies, status-lies}
 use Rattle.shifting.proofs.Called.{call-lies}
 use Rattle.shifting.proofs.Left.{last-lies, return-lies}
-use Rattle.shifting.proofs.Effects.{make-chosen, virtual-chosen, static-chosen, return-chosen, void-chosen, throw-chosen, first-virtual, first-other, virtual-leaves, throw-leaves}
+use Rattle.shifting.proofs.Effects.{make-chosen, virtual-chosen, static-chosen, return-chosen, void-chosen, throw-chosen}
+use Rattle.shifting.proofs.Effects.{first-virtual, first-other, virtual-leaves, throw-leaves, making-leaves}
 
 running-status : (x : Status) → statusOf x ≡ running → x ≡ Running
 running-status Running e = refl
@@ -82,6 +85,7 @@ module _ (t : List ℕ) (p : Program) (formed : Formed p) (s : State) (before no
   effect-lies (effect.Exit v) (g ∷ rest) c leaves fits next free =
       return-lies t p s before now h f g rest c (belowIn now h) v (below-in s before now (c .roomy) h (c .lies) f g rest (c .frames)) fits next free
   effect-lies (effect.Raise o) rest c leaves fits next free = status-lies t p s before now h f rest c (Raised o) next free
+  effect-lies (effect.RaiseNew k) rest c leaves fits next free = raise-lies t p s before now h f rest c k next free
   effect-lies (effect.Fail e) rest c leaves fits next free = status-lies t p s before now h f rest c (Failed e) next free
 
 -- ---- by opcode
@@ -104,13 +108,12 @@ module _ (t : List ℕ) (formed : Formed (programIn t)) (s : State) (before : Le
       class-in s before now roomy h lies (register f (lookOf h .first)) (value-in s before now roomy h lies f rest (at .frames) small) run
       (top-shaped (programIn t) s shaped f rest (at .frames) .0 .known (lookOf h .first))
 
-  -- an arm that does the instruction's effect
-  arm : (w : Shifting) (i : Instruction) (e : Effect) → shiftIn w t now h ≡ shifted (programIn t) h (belowIn now h) e
-      → instructionOf (h .word) ≡ i → e ≡ decide (programIn t) s f i → Leaving e → Shifted (programIn t) s before now (h .run) (shiftDone w t now h)
-  arm w i e same chosen does leaves =
+  -- an arm that does the effect
+  arm-by : (w : Shifting) (e : Effect) → shiftIn w t now h ≡ shifted (programIn t) h (belowIn now h) e → effectAt (programIn t) s f ≡ e
+      → Leaving e → Shifted (programIn t) s before now (h .run) (shiftDone w t now h)
+  arm-by w e same is leaves =
       let p : Program = programIn t in
       let low : codeLength p (f .method) ≤ 32 = formed .limited .code (f .method) in
-      let is : effectAt p s f ≡ e = ap (λ (w : ℕ). decide p s f (instructionOf w)) (sym (come .word)) ∙ ap (decide p s f) chosen ∙ sym does in
       subst (λ (r : drive.Done Run). Shifted p s before now (h .run) r)
       (sym (done-written w t now h ∙ ap (written t now) same))
       (effect-lies t p formed s before now h f (come .pc) run (omega (arith, low, at .inside)) e rest
@@ -119,6 +122,16 @@ module _ (t : List ℕ) (formed : Formed (programIn t)) (s : State) (before : Le
       (subst (Fitting p s f) is (decided-fits p formed s shaped f rest (at .frames) (at .inside)))
       (step-running p s f rest at ∙ ap (apply p s f rest) is)
       (running-stop p s f rest at ∙ ap (room s) is))
+
+  effect-is : (i : Instruction) → instructionOf (h .word) ≡ i → effectAt (programIn t) s f ≡ decide (programIn t) s f i
+  effect-is i chosen =
+      ap (λ (w : ℕ). decide (programIn t) s f (instructionOf w)) (sym (come .word)) ∙ ap (decide (programIn t) s f) chosen
+
+  -- an arm that does the instruction's effect
+  arm : (w : Shifting) (i : Instruction) (e : Effect) → shiftIn w t now h ≡ shifted (programIn t) h (belowIn now h) e
+      → instructionOf (h .word) ≡ i → e ≡ decide (programIn t) s f i → Leaving e
+      → Shifted (programIn t) s before now (h .run) (shiftDone w t now h)
+  arm w i e same chosen does leaves = arm-by w e same (effect-is i chosen ∙ sym does) leaves
 
   opcode : (n : ℕ) → h .opcode ≡ n → opcodeOf (h .word) ≡ n
   opcode n e = ap opcodeOf (come .word) ∙ sym (come .opcode) ∙ e
@@ -154,8 +167,8 @@ module _ (t : List ℕ) (formed : Formed (programIn t)) (s : State) (before : Le
       (rw (class, value, first-other h (λ q. never (omega (arith, e, q)))) refl)
       (throw-leaves (programIn t) (classIn now h) (valueOf (valueIn now h)))
 
-  make-arm : h .opcode ≡ 7 → Shifted (programIn t) s before now (h .run) (makeDone t now h)
-  make-arm e = arm makeShifting _ _ refl (make-chosen (h .word) (opcode 7 e)) refl tt
+  make-arm : effectAt (programIn t) s f ≡ makingBy (h .how) (h .word) → Shifted (programIn t) s before now (h .run) (makeDone t now h)
+  make-arm is = arm-by makeShifting (makingBy (h .how) (h .word)) refl is (making-leaves (h .how) (h .word))
 
   leave-arm : exitsOf h ≡ true → Shifted (programIn t) s before now (h .run) (leaveDone t now h)
   leave-arm e =
@@ -171,8 +184,18 @@ module _ (t : List ℕ) (formed : Formed (programIn t)) (s : State) (before : Le
       let e = neither (eqb (h .opcode) 16) (eqb (h .opcode) 17) c in
       absurd (false≢true (rw (q, a, b, e .0, e .1, d) at leaves)))
 
-  pub applied-lies : leavesOf (siteAt (programIn t) f rest) ≡ true → Shifted (programIn t) s before now (h .run) (applied t now h)
-  applied-lies leaves =
+  -- what none of the five others is makes an object
+  making : (e : How) → isReady e ≡ true → LeftBy (programIn t) s f rest e → eqb (h .opcode) 13 ≡ false → eqb (h .opcode) 12 ≡ false
+      → exitsOf h ≡ false → eqb (h .opcode) 18 ≡ false → effectAt (programIn t) s f ≡ makingBy e (h .word)
+  making how.Went ready left a b c d = absurd left
+  making how.Leaves ready left a b c d =
+      effect-is _ (make-chosen (h .word) (opcode 7 (last-opcode (ap leavesBy (come .opcode) ∙ left) a b c d)))
+  making (how.Raises k) ready left a b c d = left
+  making (how.Failed e) ready left a b c d = never (cc)
+
+  pub applied-lies : (e : How) → h .how ≡ e → isReady e ≡ true → LeftBy (programIn t) s f rest e
+      → Shifted (programIn t) s before now (h .run) (applied t now h)
+  applied-lies e q ready left =
       let P : drive.Done Run → Type 0 = Shifted (programIn t) s before now (h .run) in
       pick-cases P (eqb (h .opcode) 13) (staticDone t now h) (fromVirtual t now h) (λ q. static-arm (eqb-true (h .opcode) 13 q))
       (λ a.
@@ -181,4 +204,4 @@ module _ (t : List ℕ) (formed : Formed (programIn t)) (s : State) (before : Le
       pick-cases P (exitsOf h) (leaveDone t now h) (fromThrow t now h) leave-arm
       (λ c.
       pick-cases P (eqb (h .opcode) 18) (throwDone t now h) (makeDone t now h) (λ q. throw-arm (eqb-true (h .opcode) 18 q))
-      (λ d. make-arm (last-opcode (ap leavesBy (come .opcode) ∙ leaves) a b c d)))))
+      (λ d. make-arm (making e ready left a b c d ∙ ap (λ (e : How). makingBy e (h .word)) (sym q))))))

@@ -26,6 +26,7 @@ use Rattle.turn.specs.declared.Halt.the-variants as halt
 use Rattle.turn.specs.declared.Status.{Status}
 use Rattle.turn.specs.declared.Status.the-variants.{Running, Raised, Done, Uncaught, Failed}
 use Rattle.turn.specs.Stop.{stopOf}
+use Rattle.turn.proofs.Stops.{raised-stop}
 use Rattle.shift.specs.declared.Run.{Run}
 use Rattle.shift.specs.declared.Stop.the-variants as stop
 use Rattle.shift.specs.Shift.{unwoundBy, pendingOf, outsideOf, unwound}
@@ -37,7 +38,7 @@ use Rattle.lies.specs.Lies.{statusOf, Roomy, Lies}
 use Rattle.shifting.specs.Shifting.{Shifted, written, Topped}
 use Rattle.shifting.proofs.Looked.{method-in, address-in, class-raised}
 use Rattle.shifting.proofs.Written.{done-written}
-use Rattle.shifting.proofs.Ways.{raised-stop, stops}
+use Rattle.shifting.proofs.Ways.{stops}
 use Rattle.shifting.proofs.Left.{caught-lies, drop-lies}
 use Rattle.lies.proofs.Registers.{registers-few}
 

@@ -5,14 +5,11 @@ use mathlib.Core.Option.{none}
 use Prim.Native.Nat.{ℕ, _≤_, _<_}
 use native.Mathlib.Omega.{arith}
 use lib.ListN.{length}
-use borrow.Author.Tests.{lt-ltb}
-use Rattle.program.specs.Program.{Program, codeLength}
+use Rattle.program.specs.Program.{Program}
 use Rattle.program.specs.Lists.{Every}
-use Rattle.machine.specs.State.{Frame, State, running, raised}
+use Rattle.machine.specs.State.{Frame, State}
 use Rattle.machine.specs.Run.{step}
-use Rattle.machine.proofs.Continues as continues
-use Rattle.machine.proofs.Continues.{effectAt}
-use Rattle.turn.specs.Stop.{room, stopOf}
+use Rattle.turn.specs.Stop.{stopOf}
 use Rattle.laid.proofs.Frames.{frames-length}
 use Rattle.laid.proofs.Objects.{objects-length}
 use Rattle.site.specs.Work.{nowhere}
@@ -26,17 +23,6 @@ use Rattle.drive.specs.Models.{Lent, lent, Done, done}
 use Rattle.lies.specs.Lies.{Roomy, Lies}
 use Rattle.shifting.specs.Shifting.{ShiftedBy, Shifted, written, framesBy, objectsBy, Topped}
 use Rattle.shifting.proofs.Written.{none-passed, nothing-written}
-
--- ---- what stops a state
-
-module _ (p : Program) (s : State) (f : Frame) (rest : List Frame) where
-  pub running-stop : continues.At p s running f rest → stopOf p s ≡ room s (effectAt p s f)
-  unfolding stopOf
-  running-stop h = rw (h .status, h .frames, lt-ltb (f .address) (codeLength p (f .method)) (h .inside))
-
-  pub raised-stop : (o : ℕ) → continues.At p s (raised o) f rest → stopOf p s ≡ none
-  unfolding stopOf
-  raised-stop o h = rw (h .status, h .frames, lt-ltb (f .address) (codeLength p (f .method)) (h .inside))
 
 -- ---- the slices of a state
 

@@ -61,15 +61,21 @@ pub none-passed : (t : List ℕ) (m : Lent) (e : Shift) → e .pass .count ≡ 0
 unfolding written looped
 none-passed t m e q = rw q refl
 
--- nothing is written before the arguments
+-- no frame is written before the arguments
+pub frames-unshifted : (fs : List cells.Frame) (e : Shift) → length fs ≤ nowhere → e .popped ≡ nowhere → e .resumed ≡ nowhere
+    → e .moved ≡ nowhere → e .wrote ≡ nowhere → wrote (moved (resumed (popped fs e) e) e) e ≡ fs
+frames-unshifted fs e l pops resumes moves writes =
+    ap (λ (fs : List cells.Frame). wrote (moved (resumed fs e) e) e) (popped-none fs e l pops)
+    ∙ ap (λ (fs : List cells.Frame). wrote (moved fs e) e) (resumed-none fs e l resumes)
+    ∙ ap (λ (fs : List cells.Frame). wrote fs e) (moved-none fs e l moves)
+    ∙ wrote-none fs e l writes
+
+-- nothing is
 unshifted : (m : Lent) (e : Shift) → length (m .frames) ≤ nowhere → length (m .objects) ≤ nowhere → e .popped ≡ nowhere → e .resumed ≡ nowhere
     → e .moved ≡ nowhere → e .wrote ≡ nowhere → e .made ≡ nowhere → shiftedOn m e ≡ m
 unshifted m e l b pops resumes moves writes makes =
     ap (λ (fs : List cells.Frame). lent fs (objectsBy (m .objects) e) (m .statics))
-    (ap (λ (fs : List cells.Frame). wrote (moved (resumed fs e) e) e) (popped-none (m .frames) e l pops)
-    ∙ ap (λ (fs : List cells.Frame). wrote (moved fs e) e) (resumed-none (m .frames) e l resumes)
-    ∙ ap (λ (fs : List cells.Frame). wrote fs e) (moved-none (m .frames) e l moves)
-    ∙ wrote-none (m .frames) e l writes)
+    (frames-unshifted (m .frames) e l pops resumes moves writes)
     ∙ ap (λ (os : List Object). lent (m .frames) os (m .statics)) (made-none (m .objects) e b makes)
 
 -- nothing at all

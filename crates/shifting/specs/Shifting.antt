@@ -7,7 +7,8 @@ use Prim.Native.Nat.{ℕ, _≤_}
 use lib.ListN.{length, getD, set}
 use Rattle.program.specs.Program.{Program, wordAt}
 use Rattle.machine.specs.declared.Effect.{Effect}
-use Rattle.machine.specs.declared.Effect.the-variants.{Next, Jump, Write, Load, LoadStatic, Make, Store, StoreStatic, Call, Exit, Raise, Fail}
+use Rattle.machine.specs.declared.Effect.the-variants.{Next, Jump, Write, Load, LoadStatic, Make, Store, StoreStatic, Call, Exit, Raise}
+use Rattle.machine.specs.declared.Effect.the-variants.{RaiseNew, Fail}
 use Rattle.machine.specs.State.{Frame, State}
 use Rattle.machine.specs.Run.{step}
 use Rattle.turn.specs.declared.Halt.the-variants.{FullStore, FullStack, Outside}
@@ -76,4 +77,5 @@ Leaving (StoreStatic x v) = ⊥
 Leaving (Call m c) = Unit {0}
 Leaving (Exit v) = Unit {0}
 Leaving (Raise o) = Unit {0}
+Leaving (RaiseNew k) = Unit {0}
 Leaving (Fail e) = Unit {0}

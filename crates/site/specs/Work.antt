@@ -19,7 +19,7 @@ use Rattle.cells.specs.Reads.{cellIn}
 use Rattle.site.specs.declared.Site.{Site}
 use Rattle.site.specs.declared.Work.{Work}
 use Rattle.site.specs.declared.How.{How}
-use Rattle.site.specs.declared.How.the-variants.{Went, Leaves, Failed}
+use Rattle.site.specs.declared.How.the-variants.{Went, Leaves, Raises, Failed}
 use Rattle.site.specs.Site.{opcodeOf, aOf, bOf, cOf, dOf}
 
 -- no place in any slice
@@ -88,6 +88,7 @@ workOf pc v g (effect.StoreStatic x u) = keptIn pc x (cellIn u)
 workOf pc v g (effect.Call m c) = goesTo pc Leaves
 workOf pc v g (effect.Exit u) = goesTo pc Leaves
 workOf pc v g (effect.Raise o) = goesTo pc Leaves
+workOf pc v g (effect.RaiseNew k) = goesTo pc (Raises k)
 workOf pc v g (effect.Fail e) = goesTo pc (Failed e)
 
 -- what an instruction decides, of its first and second value, the frame's result, and the class of the first one's object

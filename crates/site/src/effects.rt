@@ -104,6 +104,7 @@ pub fn work_of(pc: u8, v: Value, g: Value, e: Effect) -> Work
             value,
         } => stored(pc, object, field, cells::cell_of(value)),
         Effect::StoreStatic { place, value } => kept(pc, place, cells::cell_of(value)),
+        Effect::RaiseNew { class } => goes_to(pc as u32, How::Raises(class)),
         Effect::Fail { fault } => goes_to(pc as u32, How::Failed(fault)),
         _ => goes_to(pc as u32, How::Leaves),
     }

@@ -1,5 +1,6 @@
 // What each kind of instruction comes to, of two registers, the result, the class and a cell of the first one's object, and a
-// static. What is likely stands first, so that it is compiled apart.
+// static. What is likely stands first, so that it is compiled apart, and each effect that a kind comes to has an arm: `work_of` takes
+// what never comes.
 use super::How;
 use super::Site;
 use super::Work;
@@ -71,6 +72,7 @@ pub fn binop_work(
     match e {
         Effect::Write { to, value } => effects::wrote(s.pc, to, cells::cell_of(value)),
         Effect::Fail { fault } => effects::goes_to(s.pc as u32, How::Failed(fault)),
+        Effect::RaiseNew { class } => effects::goes_to(s.pc as u32, How::Raises(class)),
         _ => effects::work_of(s.pc, v, g, e),
     }
 }
@@ -97,6 +99,7 @@ pub fn iget_work(
     match e {
         Effect::Load { to, object, field } => effects::wrote(s.pc, to, v),
         Effect::Fail { fault } => effects::goes_to(s.pc as u32, How::Failed(fault)),
+        Effect::RaiseNew { class } => effects::goes_to(s.pc as u32, How::Raises(class)),
         _ => effects::work_of(s.pc, v, g, e),
     }
 }
@@ -122,6 +125,7 @@ pub fn iput_work(
             value,
         } => effects::stored(s.pc, object, field, cells::cell_of(value)),
         Effect::Fail { fault } => effects::goes_to(s.pc as u32, How::Failed(fault)),
+        Effect::RaiseNew { class } => effects::goes_to(s.pc as u32, How::Raises(class)),
         _ => effects::work_of(s.pc, v, g, e),
     }
 }
@@ -172,6 +176,7 @@ pub fn class_work(
     match e {
         Effect::Write { to, value } => effects::wrote(s.pc, to, cells::cell_of(value)),
         Effect::Fail { fault } => effects::goes_to(s.pc as u32, How::Failed(fault)),
+        Effect::RaiseNew { class } => effects::goes_to(s.pc as u32, How::Raises(class)),
         _ => effects::work_of(s.pc, v, g, e),
     }
 }

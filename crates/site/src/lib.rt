@@ -25,10 +25,12 @@ pub struct Site {
     pub opcode: u8,
 }
 
-// How an instruction ends: the frame goes to another address, the instruction is one that does not stay in its frame, or a fault.
+// How an instruction ends: the frame goes to another address, the instruction is one that does not stay in its frame, a new object of
+// a class is raised, or a fault.
 pub enum How {
     Went,
     Leaves,
+    Raises(u8),
     Failed(Fault),
 }
 

@@ -51,7 +51,8 @@ fn nine(panel: &[u8]) {
     step(b"9", panel);
 }
 
-// An accepted claim, and one for each rule that breaks it.
+// An accepted claim, and one for each rule that breaks it; then claims that forget a class which an instruction raises itself: null at its
+// handler, a division by zero and a failed cast among the exceptions that leave their methods.
 fn rules() {
     rule(b"rules.claim");
     rule(b"rule0.claim");
@@ -65,9 +66,13 @@ fn rules() {
     rule(b"rule8.claim");
     rule(b"rule9.claim");
     rule(b"rule10.claim");
+    check(b"null.panel", b"null.claim");
+    check(b"division.panel", b"division.claim");
+    check(b"cast.panel", b"cast.claim");
 }
 
-// Refusals 1 to 6 of a panel and 9 to 13 of a claim; a refused panel hides a refused claim. A folder opens, and cannot be read.
+// Refusals 1 to 6 of a panel and 9 to 13 of a claim; a refused panel hides a refused claim. Of refusals 4 and 5 also a panel of four
+// classes, and one whose class 3 is not directly below class 1. A folder opens, and cannot be read.
 fn refusals() {
     check(b"long.claim", b"claim.txt");
     check(b"letter.txt", b"claim.txt");
@@ -75,6 +80,8 @@ fn refusals() {
     check(b"missing.panel", b"missing.claim");
     check(b"no_method.panel", b"claim.txt");
     check(b"falls.panel", b"letter.txt");
+    check(b"four_classes.panel", b"claim.txt");
+    check(b"superclass.panel", b"claim.txt");
     sample(b"long.claim");
     sample(b"letter.txt");
     sample(b"panel.txt");
@@ -87,28 +94,36 @@ fn refusals() {
     nine(b".");
 }
 
-// A run that ends, stops 20 to 22, faults 1 to 8.
+// A run that ends; stops 20 to 22, of these 20 at new-instance and at an instruction that raises; faults 2, 3, 5, 6 and 7. Then null that
+// is raised, caught in its own method and read there; a division by zero that no handler takes; a failed cast that the caller catches.
 fn runs() {
     two(b"step", b"1000");
     step(b"99999999999999999999999", b"uncaught.panel");
     step(b"1000", b"full_store.panel");
+    step(b"1000", b"full_store_raised.panel");
     step(b"1000", b"full_stack.panel");
     two(b"step", b"2");
-    nine(b"fault1.panel");
     nine(b"fault2.panel");
     nine(b"fault3.panel");
-    nine(b"fault4.panel");
     nine(b"fault5.panel");
     nine(b"fault6.panel");
     nine(b"fault7.panel");
-    nine(b"fault8.panel");
+    step(b"1", b"null.panel");
+    step(b"3", b"null.panel");
+    nine(b"null.panel");
+    nine(b"division.panel");
+    step(b"4", b"cast.panel");
+    nine(b"cast.panel");
 }
 
-// Claims that are written, of the sample and of other panels, and refusals of a panel.
+// Claims that are written, of the sample and of other panels, three of them with instructions that raise, and refusals of a panel.
 fn claims() {
     one(b"claim");
     two(b"claim", b"rules.panel");
     two(b"claim", b"example.panel");
+    two(b"claim", b"null.panel");
+    two(b"claim", b"division.panel");
+    two(b"claim", b"cast.panel");
     two(b"claim", b"long.claim");
     two(b"claim", b"falls.panel");
     two(b"claim", b"missing.panel");

@@ -1,5 +1,7 @@
--- Laws of transfer functions: what is written, a register that holds another mask meanwhile, what is stored and thrown, and calls.
+-- Laws of transfer functions: what is written, a register that holds another mask meanwhile, what is stored, thrown and raised, and
+-- calls.
 mod Written
 mod Replaced
 mod Stored
+mod Raising
 mod Called

@@ -19,7 +19,7 @@ use Rattle.flow.specs.Flows.{Flows, _&_, each, when, isFound, Holds}
 use Rattle.flow.specs.Rules.{writes, receiverInto, returnedInto, leavingClasses, intoHandler, intoLeaving}
 use Rattle.carry.specs.Carried.{argumentsFrom}
 use Rattle.order.specs.Order.{Below}
-use Rattle.order.specs.Raised.{Goes, Raised, allOf}
+use Rattle.order.specs.Raised.{Goes, Raised, nothing, allOf}
 
 -- an instruction that may stand at address pc of method m of a well-formed program
 pub record Ready (p : Program) (m pc : ℕ) (i : Instruction) : Type 0 where
@@ -38,6 +38,10 @@ pub record Gives (c : Claim) (f : Flows) (s : Slot) (m : Mask) : Type 0 where
 abbrev pub Writes : Program → ℕ → ℕ → ℕ → Flows → Claim → Claim → Type 0
 Writes p m pc a f c d =
     Formed p → m < methodCount p → suc pc < codeLength p m → a < registers p m → Raised (allOf (writes p m pc a f)) c d
+
+-- rules 9 and 10 of what is raised, by what is asked of each class
+abbrev pub raisedRules : Program → ℕ → ℕ → ((ℕ → Flows) → Flows) → Flows
+raisedRules p m pc asks = asks (intoHandler p m pc) & asks (intoLeaving p m pc) & nothing
 
 -- rules 7, 9 and 10 of a callee
 abbrev pub fromCallee : Program → ℕ → ℕ → ℕ → Flows

@@ -1,4 +1,5 @@
 // Calls (rules 2, 6, 7, 9 and 10).
+use crate::own;
 use mask::Mask;
 use raise::exceptions;
 use raise::rows::carry;
@@ -154,5 +155,6 @@ pub fn by_receiver(
 {
     let new = carry(t, &mut *w, m, pc, pc + 1);
     let mask = slots::register(w, m, pc, register as usize);
-    new | take_callees(t, w, s, m, pc, mask, name, count, register)
+    let called = take_callees(t, &mut *w, s, m, pc, mask, name, count, register);
+    new | called | own::null_used(t, w, s, m, pc, register)
 }

@@ -17,6 +17,7 @@ ghost use Rattle.order.specs.Raised.{Raised, allOf};
 ghost use Rattle.transfer.specs.Transfer.{Ready};
 
 mod call;
+mod own;
 mod step;
 mod write;
 
@@ -44,12 +45,12 @@ fn of_instruction(
         Instruction::If { target, .. } => step::to_both(t, w, m, pc, target),
         Instruction::IfZero { target, .. } => step::to_both(t, w, m, pc, target),
         Instruction::Binop {
+            operation,
             to,
             left,
             right,
-            ..
-        } => write::binary(t, w, m, pc, to, left, right),
-        Instruction::Unop { to, from, .. } => write::binary(t, w, m, pc, to, from, from),
+        } => write::binary(t, w, s, m, pc, operation, to, left, right),
+        Instruction::Unop { to, from, .. } => write::of_both(t, w, m, pc, to, from, from),
         Instruction::NewInstance { to, class } => write::made(t, w, m, pc, to, class),
         Instruction::Iget { to, object, field } => write::field_read(
             t,

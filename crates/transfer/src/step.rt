@@ -1,4 +1,5 @@
 // Instructions that write no register: where they go on to, what they store, return and throw.
+use crate::own;
 use raise::exceptions;
 use raise::masks;
 use raise::rows::onward;
@@ -70,7 +71,11 @@ pub fn field_written(
     let mask = slots::register(w, m, pc, object as usize);
     let value = slots::register(w, m, pc, from as usize);
     let having = sets::with_field(t, s, mask, field);
-    new | mark(masks::into_fields(w, having, field as usize, value), 49)
+    let stored = mark(
+        masks::into_fields(&mut *w, having, field as usize, value),
+        49,
+    );
+    new | stored | own::null_used(t, w, s, m, pc, object)
 }
 
 pub fn static_written(
@@ -130,5 +135,6 @@ pub fn thrown(
 {
     let mask = slots::register(w, m, pc, from as usize);
     let throwable = mask.common(sets::below(s, 1));
-    exceptions::raised(t, w, s, m, pc, throwable)
+    let new = exceptions::raised(t, &mut *w, s, m, pc, throwable);
+    new | own::null_used(t, w, s, m, pc, from)
 }

@@ -1,15 +1,22 @@
-// Instructions that write a register (rules 2 and 4): the mask of what is written is made of the masks before.
+// Instructions that write a register (rules 2 and 4, and rules 9 and 10 of what they raise): the mask of what is written is made of the
+// masks before.
+use crate::own;
+use instruction::Operation;
 use mask::Mask;
 use raise::masks;
 use raise::rows::onward;
 ghost use mathlib.Core.Path.{_≡_};
 ghost use Prim.Native.Nat.{suc, _<_};
+ghost use Rattle.instruction.specs.declared.Instruction.the-variants.{Binop, Iget, CheckCast};
+ghost use Rattle.program.specs.Program.{registers};
 ghost use Rattle.program.specs.Tables.{programIn};
-ghost use Rattle.flow.specs.Claim.{registerAt, resultAt, fieldOf, staticOf, numberBit};
+ghost use Rattle.flow.specs.Claim.{registerAt, resultAt, staticOf, numberBit};
 ghost use Rattle.flow.specs.Flows.{Flows, _∈_, _⊆_, numeric};
-ghost use Rattle.flow.specs.Rules.{numbersInto, classesWithField, castInto};
+ghost use Rattle.flow.specs.Rules.{numbersInto, rulesOf};
 ghost use Rattle.slots.specs.Layout.{claimIn};
 ghost use Rattle.sets.specs.Sets.{setsOf};
+ghost use Rattle.order.specs.Raised.{allOf};
+ghost use Rattle.raise.specs.Raises.{Flowing};
 ghost use Rattle.transfer.specs.Transfer.{Gives, Writes};
 
 // Registers and result go on, and a mask goes into the written register: the register holds it meanwhile, in place of its own.
@@ -52,8 +59,8 @@ pub fn constant(t: &[u64; 768], w: &mut [u64; 9712], m: usize, pc: usize, to: u8
     written(t, w, m, pc, to, masks::of_number(value))
 }
 
-// An instruction of one operand has it twice.
-pub fn binary(
+// Of numbers out of two registers. An instruction of one operand has it twice.
+pub fn of_both(
     t: &[u64; 768],
     w: &mut [u64; 9712],
     m: usize,
@@ -72,6 +79,29 @@ pub fn binary(
     let a = slots::register(w, m, pc, left as usize);
     let b = slots::register(w, m, pc, right as usize);
     written(t, w, m, pc, to, masks::of_numbers(a, b))
+}
+
+pub fn binary(
+    t: &[u64; 768],
+    w: &mut [u64; 9712],
+    s: &[u64; 80],
+    m: usize,
+    pc: usize,
+    operation: Operation,
+    to: u8,
+    left: u8,
+    right: u8,
+) -> u64
+    requires { ⌜ pc < 32 ⌝ }
+    ensures raised { λ r.
+        let p = programIn (now (t .entry)) in
+        let c = claimIn (now (w .entry)) in
+        let d = claimIn (now (w .exit)) in
+        ⌜ (now (s .entry) ≡ setsOf p → to < registers p m
+        → Flowing p m (suc pc) (allOf (rulesOf p m pc (Binop operation to left right))) c d) ⌝ }
+{
+    let new = of_both(t, &mut *w, m, pc, to, left, right);
+    new | own::divided_by_zero(t, w, s, m, pc, operation, right)
 }
 
 pub fn made(t: &[u64; 768], w: &mut [u64; 9712], m: usize, pc: usize, to: u8, class: u8) -> u64
@@ -100,13 +130,14 @@ pub fn field_read(
         let p = programIn (now (t .entry)) in
         let c = claimIn (now (w .entry)) in
         let d = claimIn (now (w .exit)) in
-        ⌜ (now (s .entry) ≡ setsOf p
-        → Writes p m pc to (classesWithField p m pc object field (λ k. fieldOf k field ⊆ registerAt m (suc pc) to)) c d) ⌝ }
+        ⌜ (now (s .entry) ≡ setsOf p → to < registers p m
+        → Flowing p m (suc pc) (allOf (rulesOf p m pc (Iget to object field))) c d) ⌝ }
 {
     let mask = slots::register(w, m, pc, object as usize);
     let having = sets::with_field(t, s, mask, field);
     let value = masks::from_fields(w, having, field as usize);
-    written(t, w, m, pc, to, value)
+    let new = written(t, &mut *w, m, pc, to, value);
+    new | own::null_used(t, w, s, m, pc, object)
 }
 
 pub fn static_read(
@@ -166,15 +197,11 @@ pub fn cast(
         let p = programIn (now (t .entry)) in
         let c = claimIn (now (w .entry)) in
         let d = claimIn (now (w .exit)) in
-        ⌜ (now (s .entry) ≡ setsOf p → Writes p m pc register (castInto p m pc register class) c d) ⌝ }
+        ⌜ (now (s .entry) ≡ setsOf p → register < registers p m
+        → Flowing p m (suc pc) (allOf (rulesOf p m pc (CheckCast register class))) c d) ⌝ }
 {
     let mask = slots::register(w, m, pc, register as usize);
-    written(
-        t,
-        w,
-        m,
-        pc,
-        register,
-        masks::passing(t, s, mask, class as usize),
-    )
+    let value = masks::passing(t, s, mask, class as usize);
+    let new = written(t, &mut *w, m, pc, register, value);
+    new | own::cast_failed(t, w, s, m, pc, register, class)
 }

@@ -4,21 +4,22 @@ use mathlib.Core.List.{List, [], _∷_, map}
 use mathlib.Core.Option.{none, some}
 use Prim.Native.Nat.{ℕ}
 use lib.ListN.{replicate}
-use Rattle.program.specs.Program.{Program}
+use borrow.Author.Tests.{lt-ltb}
+use Rattle.program.specs.Program.{Program, codeLength}
 use Rattle.machine.specs.declared.Fault.{Fault}
-use Rattle.machine.specs.declared.Fault.the-variants.{NullAsObject, NumberAsObject, ObjectAsNumber, DivisionByZero, FieldNotHad, NoMethod, NotThrowable, FailedCast}
-use Rattle.machine.specs.declared.Effect.the-variants.{Make, Call, Fail}
+use Rattle.machine.specs.declared.Fault.the-variants.{NumberAsObject, ObjectAsNumber, FieldNotHad, NoMethod, NotThrowable}
+use Rattle.machine.specs.declared.Effect.the-variants.{Make, Call, RaiseNew, Fail}
 use Rattle.machine.specs.State.{Frame, State, done, running, raised, noFrame, noObject}
+use Rattle.machine.proofs.Continues.{At, effectAt}
 use Rattle.turn.specs.declared.Halt.the-variants.{Done, Uncaught, Faulted, FullStore, FullStack, StepsMade, Outside}
-use Rattle.turn.specs.Stop.{haltNumber, room, stopBy}
+use Rattle.turn.specs.Stop.{haltNumber, room, stopBy, stopOf}
 
 -- 20, 21, 22 and 24, and the numbers of the ends
 numbers :
     map haltNumber
     (FullStore ∷ FullStack ∷ StepsMade ∷ Outside ∷ Done ∷ Uncaught
-    ∷ Faulted NullAsObject ∷ Faulted NumberAsObject ∷ Faulted ObjectAsNumber ∷ Faulted DivisionByZero
-    ∷ Faulted FieldNotHad ∷ Faulted NoMethod ∷ Faulted NotThrowable ∷ Faulted FailedCast ∷ [])
-    ≡ 20 ∷ 21 ∷ 22 ∷ 24 ∷ 32 ∷ 33 ∷ 41 ∷ 42 ∷ 43 ∷ 44 ∷ 45 ∷ 46 ∷ 47 ∷ 48 ∷ []
+    ∷ Faulted NumberAsObject ∷ Faulted ObjectAsNumber ∷ Faulted FieldNotHad ∷ Faulted NoMethod ∷ Faulted NotThrowable ∷ [])
+    ≡ 20 ∷ 21 ∷ 22 ∷ 24 ∷ 32 ∷ 33 ∷ 42 ∷ 43 ∷ 45 ∷ 46 ∷ 47 ∷ []
 numbers = refl
 
 -- "21: a call without fault at 32 frames": a fault comes first, however many frames are open
@@ -46,6 +47,17 @@ full-store s a k = refl
 store-space : (s : State) (a k : ℕ) → room (made-objects 255 s) (Make a k) ≡ none
 store-space s a k = refl
 
+-- "a full store gives 20": the object that a step raises is the 257th too
+full-store-raising : (s : State) (k : ℕ) → room (made-objects 256 s) (RaiseNew k) ≡ some FullStore
+full-store-raising s k = refl
+
+store-space-raising : (s : State) (k : ℕ) → room (made-objects 255 s) (RaiseNew k) ≡ none
+store-space-raising s k = refl
+
+-- a call on null at 32 frames opens none: it is what the store says, and never 21
+full-stack-raising : (s : State) (k : ℕ) → room (open-frames 32 s) (RaiseNew k) ≡ room s (RaiseNew k)
+full-stack-raising s k = refl
+
 -- "after an end the state stays"
 pub ended : (p : Program) (s : State) (fs : List Frame) → stopBy p s done fs ≡ some Done
 ended p s fs = refl
@@ -56,3 +68,13 @@ nowhere p s = refl
 
 pub nowhere-raised : (p : Program) (s : State) (o : ℕ) → stopBy p s (raised o) [] ≡ some Outside
 nowhere-raised p s o = refl
+
+-- inside its method a state is stopped by its next effect, and with an object pending by nothing
+module _ (p : Program) (s : State) (f : Frame) (rest : List Frame) where
+  pub running-stop : At p s running f rest → stopOf p s ≡ room s (effectAt p s f)
+  unfolding stopOf
+  running-stop h = rw (h .status, h .frames, lt-ltb (f .address) (codeLength p (f .method)) (h .inside))
+
+  pub raised-stop : (o : ℕ) → At p s (raised o) f rest → stopOf p s ≡ none
+  unfolding stopOf
+  raised-stop o h = rw (h .status, h .frames, lt-ltb (f .address) (codeLength p (f .method)) (h .inside))

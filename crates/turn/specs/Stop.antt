@@ -7,13 +7,15 @@ use lib.ListN.{length}
 use Rattle.instruction.specs.Word.{pick}
 use Rattle.program.specs.Program.{Program, codeLength, instructionAt}
 use Rattle.machine.specs.declared.Effect.{Effect}
-use Rattle.machine.specs.declared.Effect.the-variants.{Next, Jump, Write, Load, LoadStatic, Make, Store, StoreStatic, Call, Exit, Raise, Fail}
+use Rattle.machine.specs.declared.Effect.the-variants.{Next, Jump, Write, Load, LoadStatic, Make, Store, StoreStatic, Call, Exit, Raise}
+use Rattle.machine.specs.declared.Effect.the-variants.{RaiseNew, Fail}
 use Rattle.machine.specs.State.{Frame, Status, running, raised, done, uncaught, failed, State, faultNumber}
 use Rattle.machine.specs.Decide.{decide}
 use Rattle.turn.specs.declared.Halt.{Halt}
 use Rattle.turn.specs.declared.Halt.the-variants.{Done, Uncaught, Faulted, FullStore, FullStack, StepsMade, Outside}
 
--- document 01's numbers 20, 21, 22 and 24. It leaves those of the ends free: 32 done, 33 uncaught, 41 to 48 faults 1 to 8
+-- document 01's numbers 20, 21, 22 and 24. It leaves those of the ends free: 32 done, 33 uncaught, and 40 and its number for a
+-- fault: 42, 43, 45, 46, 47
 abbrev pub haltNumber : Halt → ℕ
 haltNumber Done = 32
 haltNumber Uncaught = 33
@@ -23,7 +25,8 @@ haltNumber FullStack = 21
 haltNumber StepsMade = 22
 haltNumber Outside = 24
 
--- "20: new-instance at 256 objects. 21: a call without fault at 32 frames. In both the step is neither made nor counted"
+-- "20: new-instance at 256 objects. 21: a call without fault at 32 frames. In both the step is neither made nor counted". A step
+-- that raises a new object asks for what new-instance does: "a full store gives 20"
 abbrev pub room : State → Effect → Option Halt
 room s Next = none
 room s (Jump to) = none
@@ -36,6 +39,7 @@ room s (StoreStatic x v) = none
 room s (Call m c) = pick (ltb (length (s .frames)) 32) none (some FullStack)
 room s (Exit v) = none
 room s (Raise o) = none
+room s (RaiseNew k) = pick (ltb (length (s .objects)) 256) none (some FullStore)
 room s (Fail e) = none
 
 -- what stops the stepper at a state, by status and frames: an end, "24: an address outside its method", 20 or 21. 24 comes

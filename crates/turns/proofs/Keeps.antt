@@ -8,8 +8,8 @@ use lib.ListN.{length-set}
 use Rattle.shift.specs.declared.At.{At}
 use Rattle.shift.specs.declared.Pass.{Pass}
 use Rattle.shift.specs.Shift.{passesOf}
-use Rattle.shift.specs.Stay.{isLeaves, exitsOf}
-use Rattle.drive.specs.Models.{Lent, done}
+use Rattle.shift.specs.Stay.{isReady, exitsOf}
+use Rattle.drive.specs.Models.{Lent}
 use Rattle.drive.proofs.Driver.{Same}
 use Rattle.drive.proofs.Turns.{same-turns}
 use Rattle.drive.proofs.Keeps.{same-self, pick-keeps, loop-keeps}
@@ -67,4 +67,4 @@ pub rest-keeps : (t : List ℕ) (m : Lent) (h : At) → Same m (restDone t m h .
 rest-keeps t m h = same-self m
 
 pub execute-keeps : (t : List ℕ) (m : Lent) (h : At) → Same m (executed t m h .memory)
-execute-keeps t m h = pick-keeps (isLeaves (h .how)) m (applied t m h) (restDone t m h) (apply-keeps t m h) (rest-keeps t m h)
+execute-keeps t m h = pick-keeps (isReady (h .how)) m (applied t m h) (restDone t m h) (apply-keeps t m h) (rest-keeps t m h)

@@ -50,7 +50,7 @@ fn pass(
     j
 }
 
-// new-instance.
+// An instruction that raises a new object, or new-instance.
 fn make(
     t: &[u64; 768],
     frames: &mut [Frame],
@@ -242,7 +242,7 @@ pub fn unwind(
     e.run
 }
 
-// A run that comes to no instruction that leaves its frame.
+// A run that comes to no such instruction.
 fn rest(
     t: &[u64; 768],
     frames: &mut [Frame],
@@ -335,7 +335,7 @@ fn apply(
     }
 }
 
-// A run that has come to an instruction that does not stay in its frame, or to none.
+// A run that has come to an instruction that does not stay in its frame, to one that raises a new object, or to neither.
 pub fn execute(
     t: &[u64; 768],
     frames: &mut [Frame],

@@ -3,7 +3,7 @@
 use mathlib.Core.Bool.{Bool, true, false, _&&_}
 use mathlib.Core.Option.{Option, none, some}
 use Prim.Native.Nat.{ℕ, _+_}
-use lib.Dec.{eqb}
+use lib.Dec.{eqb, leb}
 use Rattle.operands.specs.declared.Limits.{Limits}
 use Rattle.instruction.specs.declared.Instruction.{Instruction}
 use Rattle.instruction.specs.declared.Instruction.the-variants.{Nop, Move, Const, Goto, If, IfZero, Binop, Unop, NewInstance, Iget, Iput, Sget, Sput, InvokeVirtual, InvokeStatic, MoveResult, MoveException, Return, ReturnVoid, Throw, InstanceOf, CheckCast}
@@ -11,11 +11,17 @@ use Rattle.instruction.specs.Test.{Test, always, under, most, same, _&_, given,
 use Rattle.instruction.specs.Word.{pick, wordOf, fallsThrough}
 use Rattle.operands.specs.Names.{named}
 use Rattle.program.specs.Lists.{first}
-use Rattle.program.specs.Program.{Program, classCount, fieldCount, methodCount, superclass, fieldClass, methodClass, methodName, methodKind, registers, arguments, codeLength, wordAt, instructionAt, handlerFrom, handlerTo, handlerTarget, handlerClass}
+use Rattle.program.specs.Program.{Program, throwableClass, nullClass, castClass, classCount, fieldCount, methodCount, superclass}
+use Rattle.program.specs.Program.{fieldClass, methodClass, methodName, methodKind, registers, arguments, codeLength, wordAt}
+use Rattle.program.specs.Program.{instructionAt, handlerFrom, handlerTo, handlerTarget, handlerClass}
 
--- "Class 0 has s = ff. Any other class has a superclass number lower than its own"
+-- the classes that the machine itself makes objects of: null, arithmetic and cast
+abbrev pub builtIn : ℕ → Bool
+builtIn c = leb nullClass c && leb c castClass
+
+-- "Class 0 has s = ff. Any other class has a superclass number lower than its own"; "Classes 2, 3 and 4, each directly below 1"
 abbrev pub superTest : ℕ → ℕ → Test
-superTest c s = pick (eqb c 0) (same s 255) (under s c)
+superTest c s = pick (eqb c 0) (same s 255) (under s c & given (builtIn c) (same s throwableClass))
 
 abbrev pub classTest : Program → ℕ → Test
 classTest p c = superTest c (superclass p c)

@@ -8,9 +8,11 @@ ghost use mathlib.Core.Bool.{not, _&&_, _||_};
 ghost use Prim.Native.Nat.{ℕ, _+_};
 ghost use Rattle.instruction.specs.Test.{passes};
 ghost use Rattle.instruction.specs.Word.{pick};
-ghost use Rattle.program.specs.Program.{classCount};
+ghost use Rattle.program.specs.Program.{throwableClass, classCount};
+ghost use lib.Dec.{eqb, ltb};
 ghost use Rattle.program.specs.Tables.{programIn};
-ghost use Rattle.values.specs.Values.{superTest, classTest, fieldTest, headerTest, alike, repeated, methodTest, limitsOf, staticTest, callTest, instructionTest, lastTest, rangeTest, handlerTest, instructionMark};
+ghost use Rattle.values.specs.Values.{builtIn, superTest, classTest, fieldTest, headerTest, alike, repeated, methodTest, limitsOf};
+ghost use Rattle.values.specs.Values.{staticTest, callTest, instructionTest, lastTest, rangeTest, handlerTest, instructionMark};
 
 // A line's mark, by whether its values are allowed.
 pub fn value_mark(fits: bool) -> usize
@@ -19,10 +21,24 @@ pub fn value_mark(fits: bool) -> usize
     if fits { 0 } else { 5 }
 }
 
+// Whether the machine itself makes objects of class c.
+fn built_in(c: usize) -> bool
+    ensures value { λ r. ⌜ r ≡ builtIn c ⌝ }
+{
+    both(2 <= c, c <= 4)
+}
+
+// The superclass of a class that is not class 0.
+fn below_fits(c: usize, s: usize) -> bool
+    ensures value { λ r. ⌜ r ≡ ltb s c && (not (builtIn c) || eqb s throwableClass) ⌝ }
+{
+    both(s < c, implies(built_in(c), s == 1))
+}
+
 fn super_fits(c: usize, s: usize) -> bool
     ensures value { λ r. ⌜ r ≡ passes (superTest c s) ⌝ }
 {
-    if c == 0 { s == 255 } else { s < c }
+    if c == 0 { s == 255 } else { below_fits(c, s) }
 }
 
 pub fn class_fits(t: &[u64; 768], c: usize) -> bool

@@ -23,7 +23,8 @@ use Rattle.claim.specs.Frames.{Due, outer, inner, frameAt, partDue}
 use Rattle.wording.specs.ClaimText.{claimText}
 use Rattle.wording.proofs.Sizes.{size, size-append, address-length, one-length, parts-length}
 
--- ---- 60 classes, all below class 0, which has 16 fields; 16 statics; 16 methods of 16 registers and 32 instructions, each a return
+-- ---- 60 classes, those from 2 on below class 1, which is below class 0, which has 16 fields; 16 statics; 16 methods of 16 registers and
+-- 32 instructions, each a return
 abbrev returnVoid : ℕ
 returnVoid = 0x1100000000000000
 
@@ -32,7 +33,7 @@ abbrev method : ℕ → Method
 method m = record { header = m * 16777216 + 0x011000; code = replicate 32 returnVoid; handlers = [] }
 
 abbrev pub longest : Program
-longest = record { supers = 255 ∷ replicate 59 0; fields = replicate 16 0; statics = 16; methods = tab 16 method }
+longest = record { supers = 255 ∷ 0 ∷ replicate 58 1; fields = replicate 16 0; statics = 16; methods = tab 16 method }
 
 method-is : (m : ℕ) → m < 16 → methodAt longest m ≡ method m
 method-is m l = getD-tab 16 method m noMethod l
@@ -64,8 +65,8 @@ formed-method m l =
       caught = rw (method-is m l) (λ h k. absurd (omega arith));
     }
 
-super-is : (c : ℕ) → c < 59 → superclass longest (suc c) ≡ 0
-super-is c l = getD-replicate {A = ℕ} 59 c 0 255 l
+super-is : (c : ℕ) → c < 58 → superclass longest (suc (suc c)) ≡ 1
+super-is c l = getD-replicate {A = ℕ} 58 c 1 255 l
 
 field-is : (x : ℕ) → x < 16 → fieldClass longest x ≡ 0
 field-is x l = getD-replicate {A = ℕ} 16 x 0 255 l
@@ -75,7 +76,14 @@ no-method m l = getD-tab-out 16 method m noMethod l
 
 upward : (c : ℕ) → c < 60 → 1 ≤ c → superclass longest c < c
 upward zero l h = absurd (omega arith)
-upward (suc c) l h = rw (super-is c (omega arith)) (omega arith)
+upward (suc zero) l h = omega arith
+upward (suc (suc c)) l h = rw (super-is c (omega arith)) (omega arith)
+
+-- classes 2, 3 and 4 among them
+below-throwable : (c : ℕ) → 2 ≤ c → c ≤ 4 → superclass longest c ≡ 1
+below-throwable zero l h = absurd (omega arith)
+below-throwable (suc zero) l h = absurd (omega arith)
+below-throwable (suc (suc c)) l h = super-is c (omega arith)
 
 pub longest-formed : Formed longest
 longest-formed =
@@ -96,6 +104,7 @@ longest-formed =
       };
       top = refl;
       supers = upward;
+      built-in = below-throwable;
       fields = λ f l. rw (field-is f l) (omega arith);
       methods = formed-method;
       main-static = refl;
@@ -112,8 +121,9 @@ top-below (suc n) = refl
 class-below : (c : ℕ) → c < 60 → belowIn c longest c 0 ≡ true
 unfolding belowIn
 class-below zero l = refl
-class-below (suc c) l =
-    or-right (eqb (suc c) 0) _ (rw (super-is c (omega arith), lt-ltb 0 (suc c) (omega arith)) (top-below c))
+class-below (suc zero) l = refl
+class-below (suc (suc c)) l =
+    or-right (eqb (suc (suc c)) 0) _ (rw (super-is c (omega arith), lt-ltb 1 (suc (suc c)) (omega arith)) (top-below c))
 
 has-all : (c x : ℕ) → c < 60 → x < 16 → hasField longest c x ≡ true
 unfolding hasField

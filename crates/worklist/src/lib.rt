@@ -153,7 +153,7 @@ fn fill_by(
     let mut broken = rules::first_broken(t, w);
     let mut left: usize = 621569;
     while left > 0 {
-        if broken.rule == 11 {
+        if broken.rule == rules::NO_RULE {
             return;
         }
         go_on(

@@ -1,8 +1,9 @@
-//! Programs without end, each busy with one kind of instruction, and one that
-//! does nothing.
+//! Programs without end, each busy with one kind of instruction, those of
+//! exceptions that are raised, and one that does nothing.
 
 use compare::assembly::*;
-use compare::program::{Handler, Method, Program, STATIC};
+use compare::program::{Handler, Instruction, Method, Program};
+use compare::program::{ARITHMETIC, NULL, STATIC};
 
 pub fn all() -> Vec<(&'static str, Program)> {
     vec![
@@ -138,11 +139,26 @@ pub fn mixed() -> Program {
     program(&[0, 0, 0, 1], &[2], 1, methods)
 }
 
+/// Each makes an object in every third step, so that only the first 768 can be
+/// measured.
+pub fn raising() -> Vec<(&'static str, Program)> {
+    vec![
+        ("null raised and caught", raised_and_caught(iget(1, 0, 0), NULL)),
+        ("zero division raised and caught", raised_and_caught(binop(DIV, 1, 1, 0), ARITHMETIC)),
+    ]
+}
+
+fn raised_and_caught(instruction: Instruction, class: u8) -> Program {
+    let main = main_method(2, vec![instruction, nop(), goto(0)]);
+    let methods = vec![main.with_handlers(vec![Handler::new(0, 1, 2, class)])];
+    whole_program(&[0, 1, 1, 1], &[0], 0, methods)
+}
+
 /// As many masks as there can be, and nothing but zero in them.
 pub fn idle() -> Program {
     let method = |number: u8| {
         let code = [vec![nop(); 31], vec![return_void()]].concat();
         Method::new(0, number, STATIC, 16, 0).with_code(code)
     };
-    program(&[0; 59], &[0; 16], 16, (0..16).map(method).collect())
+    program(&[0; 56], &[0; 16], 16, (0..16).map(method).collect())
 }

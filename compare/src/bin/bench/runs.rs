@@ -17,6 +17,9 @@ pub struct Run {
     number: u64,
 }
 
+/// Steps in which 250 exceptions are raised and caught.
+const RAISING_STEPS: u64 = 750;
+
 /// Numbers of a run that is done, and of one that would go on.
 const DONE: u64 = 32;
 const STEPS_MADE: u64 = 22;
@@ -32,6 +35,8 @@ pub fn all() -> Vec<Run> {
     let long =
         |(name, program): (_, compare::program::Program)| on(name, program.text(), MAX_STEPS, 1);
     runs.extend(programs::all().into_iter().map(long));
+    let raising = programs::raising().into_iter();
+    runs.extend(raising.map(|(name, program)| on(name, program.text(), RAISING_STEPS, 200)));
     runs
 }
 

@@ -10,7 +10,7 @@ use std::path::Path;
 use std::{fs, io};
 
 /// The limit of all files together, and of a text, in bytes.
-const MAX_ALL: usize = 4_000_000;
+const MAX_ALL: usize = 4_500_000;
 const MAX_TEXT: usize = 262_200;
 
 /// Byte i of memory is i modulo this before the call.

@@ -1,7 +1,7 @@
-//! Rules 6, 7, 9 and 10.
+//! Rules 6 and 7, and the exceptions of callees.
 
 use super::{Asking, Place};
-use crate::least::classes::{find, has, is_below};
+use crate::least::classes::{find, has};
 
 impl Asking<'_> {
     pub(super) fn static_call(&mut self) {
@@ -37,22 +37,5 @@ impl Asking<'_> {
                 self.raise(class);
             }
         }
-    }
-
-    /// Rules 9 and 10 for one class.
-    pub(super) fn raise(&mut self, class: u8) {
-        let handlers = &self.program.methods[self.method].handlers;
-        let taken = handlers.iter().find(|handler| {
-            (usize::from(handler.from)..usize::from(handler.to)).contains(&self.address)
-                && is_below(self.program, class, handler.class)
-        });
-        let Some(handler) = taken else {
-            return self.ask(10, Place::Leaving(self.method), 1 << class);
-        };
-        let target = usize::from(handler.target);
-        for register in 0..self.result() {
-            self.ask(9, self.at(target, register), self.row[register]);
-        }
-        self.ask(9, self.at(target, self.result()), 1 << class);
     }
 }

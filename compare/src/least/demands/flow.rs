@@ -1,13 +1,10 @@
-//! Rules 2 to 5 and 8, and what raises an exception.
+//! Rules 2 to 5 and 8.
 
 use super::{Asking, Place};
 use crate::claim::{NUMBERS, OTHER, ZERO};
 use crate::least::classes::{classes_having, has, is_below};
 use crate::opcode::*;
 use crate::program::Instruction;
-
-/// Class 1 is Throwable.
-const THROWABLE: u8 = 1;
 
 impl Asking<'_> {
     pub(super) fn instruction(&self) -> Instruction {
@@ -45,13 +42,6 @@ impl Asking<'_> {
             SPUT => self.ask(5, Place::Static(usize::from(i.b)), self.mask(i.a)),
             RETURN => self.ask(8, Place::Returned(self.method), self.mask(i.a)),
             RETURN_VOID => self.ask(8, Place::Returned(self.method), ZERO),
-            THROW => {
-                for class in self.classes() {
-                    if has(self.mask(i.a), class) && is_below(self.program, class, THROWABLE) {
-                        self.raise(class);
-                    }
-                }
-            }
             INVOKE_VIRTUAL => self.virtual_call(),
             INVOKE_STATIC => self.static_call(),
             _ if writes(i.o) => {
@@ -60,6 +50,7 @@ impl Asking<'_> {
             }
             _ => {}
         }
+        self.exceptions();
     }
 
     /// Rule 4: what is written.

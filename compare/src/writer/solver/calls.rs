@@ -56,11 +56,11 @@ impl Solver<'_> {
     /// before.
     pub(super) fn raise(&mut self, number: usize, site: Site, classes: u64) {
         let seen = self.seen[number];
-        let mut new = classes & !seen.classes;
+        let mut new = classes & !seen.raised;
         if new == 0 {
             return;
         }
-        self.seen[number].classes |= new;
+        self.seen[number].raised |= new;
         let handlers = &self.program.methods[usize::from(site.method)].handlers;
         for place in elements(site.handlers.into()) {
             let caught = new & self.sets.below[usize::from(handlers[place].class)];

@@ -1,4 +1,5 @@
-//! Rules 4, 5 and 8: what an instruction writes, stores and returns.
+//! Rules 4, 5 and 8: what an instruction writes, stores and returns; and what it
+//! raises.
 
 use super::super::sites::CALLEES;
 use super::{Site, Slots, Solver};
@@ -44,11 +45,12 @@ impl Solver<'_> {
             IPUT => self.put(number, site, grown),
             SPUT => self.store(usize::from(i.b), self.mask(site, i.a)),
             RETURN => self.give(site, self.mask(site, i.a)),
-            THROW => self.raise(number, site, self.mask(site, i.a) & self.sets.throwable()),
             INVOKE_STATIC => self.static_call(number, site, grown),
             INVOKE_VIRTUAL => self.virtual_call(number, site, grown),
             _ => {}
         }
+        let row = &self.claim.states[usize::from(site.row)..][..usize::from(site.result)];
+        self.raise(number, site, self.sets.raised(i, row));
     }
 
     /// Into register a at the next address.
@@ -61,7 +63,7 @@ impl Solver<'_> {
     /// the others later, `put` brings.
     fn get(&mut self, number: usize, site: Site) {
         let field = usize::from(site.instruction.c);
-        let seen = &mut self.seen[number].classes;
+        let seen = &mut self.seen[number].fields;
         let new = self.claim.states[usize::from(site.row) + usize::from(site.instruction.b)]
             & self.sets.having[field]
             & !*seen;
@@ -78,7 +80,7 @@ impl Solver<'_> {
         let field = usize::from(i.c);
         let value = self.mask(site, i.a);
         let having = self.mask(site, i.b) & self.sets.having[field];
-        let seen = std::mem::replace(&mut self.seen[number].classes, having);
+        let seen = std::mem::replace(&mut self.seen[number].fields, having);
         let into = if grown >> i.a & 1 == 1 { having } else { having & !seen };
         let mut stored = 0;
         for class in elements(into) {

@@ -9,7 +9,7 @@ use Rattle.program.specs.Tables.{programIn}
 use Rattle.flow.specs.Verdict.{accepted, violated, verdict}
 use Rattle.flow.proofs.Verdicts.{first-all}
 use Rattle.slots.specs.Layout.{claimIn}
-use Rattle.rules.specs.Broken.{methodVerdict, brokenOf}
+use Rattle.rules.specs.Broken.{noRule, methodVerdict, brokenOf}
 use Rattle.rules.proofs.Numbers.{first-here, method-said}
 use Rattle.rules.proofs.first_by.Statement.{statement}
 use Rattle.rules.proofs.first_by.Tie as tie
@@ -40,7 +40,7 @@ returns c =
     let r = i .in-method .result in
     let l : b .loop .m < methodCount p = omega (arith, b .before .method-count .ensures) in
     let here : methodVerdict p cl (b .loop .m) ≡ violated (r .rule) (r .method) (r .address) =
-    method-said p cl (b .loop .m) r (i .in-method .ensures) ∙ rw (ne-eqb (r .rule) 11 (c .if1 .taken)) in
+    method-said p cl (b .loop .m) r (i .in-method .ensures) ∙ rw (ne-eqb (r .rule) noRule (c .if1 .taken)) in
     ap brokenOf
     (sym (first-here (methodCount p) (methodVerdict p cl) (b .loop .m) (r .rule) (r .method) (r .address) l (b .loop .inv .1) here))
 
@@ -58,7 +58,7 @@ loop-again c =
     let r = i .in-method .result in
     let here : methodVerdict (programIn (a .t .now)) (claimIn (a .w .now)) (b .loop .m) ≡ accepted =
     method-said (programIn (a .t .now)) (claimIn (a .w .now)) (b .loop .m) r (i .in-method .ensures)
-    ∙ rw (eq-eqb (r .rule) 11 (c .if1 .left)) in
+    ∙ rw (eq-eqb (r .rule) noRule (c .if1 .left)) in
     (omega arith, λ k l. below-more _ _ (b .loop .inv .1) here k (omega arith))
 
 none-requires : tie.Need-none-requires Inv-loop μ-loop

@@ -10,7 +10,7 @@ use Rattle.program.proofs.Read.{in-code}
 use Rattle.flow.specs.Verdict.{accepted, violated}
 use Rattle.flow.proofs.Verdicts.{first-all}
 use Rattle.slots.specs.Layout.{claimIn}
-use Rattle.rules.specs.Broken.{addressVerdict, brokenOf}
+use Rattle.rules.specs.Broken.{noRule, addressVerdict, brokenOf}
 use Rattle.rules.proofs.Numbers.{address-says, first-here}
 use Rattle.rules.proofs.in_method.Statement.{statement}
 use Rattle.rules.proofs.in_method.Tie as tie
@@ -43,7 +43,7 @@ returns c =
     let r = c .before .at-address .result in
     let l : b .loop .pc < codeLength p (a .m) = omega (arith, b .before .code-length .ensures) in
     let here : addressVerdict p cl (a .m) (b .loop .pc) ≡ violated r (a .m) (b .loop .pc) =
-    address-says p cl (a .m) (b .loop .pc) ∙ rw (sym (c .before .at-address .ensures), ne-eqb r 11 (c .if1 .taken)) in
+    address-says p cl (a .m) (b .loop .pc) ∙ rw (sym (c .before .at-address .ensures), ne-eqb r noRule (c .if1 .taken)) in
     ap brokenOf
     (sym (first-here (codeLength p (a .m)) (addressVerdict p cl (a .m)) (b .loop .pc) r (a .m) (b .loop .pc) l (b .loop .inv .1) here))
 
@@ -61,7 +61,7 @@ loop-again c =
     let cl = claimIn (a .w .now) in
     let r = c .before .at-address .result in
     let here : addressVerdict p cl (a .m) (b .loop .pc) ≡ accepted =
-    address-says p cl (a .m) (b .loop .pc) ∙ rw (sym (c .before .at-address .ensures), eq-eqb r 11 (c .if1 .left)) in
+    address-says p cl (a .m) (b .loop .pc) ∙ rw (sym (c .before .at-address .ensures), eq-eqb r noRule (c .if1 .left)) in
     (omega arith, λ k l. below-more _ _ (b .loop .inv .1) here k (omega arith))
 
 none-requires : tie.Need-none-requires Inv-loop μ-loop

@@ -1,10 +1,6 @@
 -- `rules::of_instruction` meets its contract: one case an instruction. Assumes nothing.
-use mathlib.Core.Path.{_∙_}
 use mir.Syntax.{w32}
 use mir.ValLaws.{toZ-ofZ}
-use Rattle.program.specs.Tables.{programIn}
-use Rattle.slots.specs.Layout.{claimIn}
-use Rattle.rules.proofs.Operand.{one-operand}
 use Rattle.rules.proofs.of_instruction.Statement.{statement}
 use Rattle.rules.proofs.of_instruction.Tie as tie
 
@@ -48,13 +44,13 @@ enum-known-i-6 : tie.Need-enum-known-i-6
 enum-known-i-6 c = c .match .keys7
 
 binary-requires : tie.Need-binary-requires
-binary-requires c κs = c .before .before .before .pre .0
+binary-requires c κs = c .before .before .before .pre
 
 enum-known-i-7 : tie.Need-enum-known-i-7
 enum-known-i-7 c = c .match .keys8
 
-binary-requires-2 : tie.Need-binary-requires-2
-binary-requires-2 c κs = c .before .before .before .pre .0
+unary-requires : tie.Need-unary-requires
+unary-requires c κs = c .before .before .before .pre .0
 
 enum-known-i-8 : tie.Need-enum-known-i-8
 enum-known-i-8 c = c .match .keys9
@@ -165,10 +161,7 @@ returns-7 : tie.Need-returns-7
 returns-7 c = rw (c .before .before .i6 .given .1) (c .binary .ensures)
 
 returns-8 : tie.Need-returns-8
-returns-8 c =
-    let i = c .before .before .i7 .given in
-    let a = c .before .before .before .before .args in
-    rw (i .1) (c .binary2 .ensures ∙ one-operand (programIn (a .t .now)) (claimIn (a .w .now)) (a .m) (a .pc) _ _)
+returns-8 c = rw (c .before .before .i7 .given .1) (c .unary .ensures)
 
 returns-9 : tie.Need-returns-9
 returns-9 c = rw (c .before .before .i8 .given .1) (c .made .ensures)
@@ -231,7 +224,7 @@ of-instruction-spec =
     enum-known-i-6
     binary-requires
     enum-known-i-7
-    binary-requires-2
+    unary-requires
     enum-known-i-8
     made-requires
     enum-known-i-9

@@ -52,8 +52,8 @@ binary-requires c κs = c .before .before .before .before .pre
 enum-known-i-7 : tie.Need-enum-known-i-7
 enum-known-i-7 c = c .match .keys8
 
-binary-requires-2 : tie.Need-binary-requires-2
-binary-requires-2 c κs = c .before .before .before .before .pre
+of-both-requires : tie.Need-of-both-requires
+of-both-requires c κs = c .before .before .before .before .pre
 
 enum-known-i-8 : tie.Need-enum-known-i-8
 enum-known-i-8 c = c .match .keys9
@@ -162,11 +162,11 @@ returns-6 : tie.Need-returns-6
 returns-6 c made = rw (c .before .before .before .i5 .given .1) (λ r. goes-on r refl (c .to-both2 .ensures (r .names .1)))
 
 returns-7 : tie.Need-returns-7
-returns-7 c made = rw (c .before .before .before .i6 .given .1) (λ r. goes-on r refl (c .binary .ensures) (r .names .0))
+returns-7 c made = rw (c .before .before .before .i6 .given .1) (λ r. goes-on r refl (c .binary .ensures made (r .names .0)))
 
 returns-8 : tie.Need-returns-8
 returns-8 c made =
-    rw (c .before .before .before .i7 .given .1) (λ r. one-operand _ _ _ _ _ (goes-on r refl (c .binary2 .ensures) (r .names .0)))
+    rw (c .before .before .before .i7 .given .1) (λ r. one-operand _ _ _ _ _ (goes-on r refl (c .of-both .ensures) (r .names .0)))
 
 returns-9 : tie.Need-returns-9
 returns-9 c made =
@@ -174,7 +174,7 @@ returns-9 c made =
     (λ r. goes-on r refl (c .made .ensures (omega (arith, r .names .1, r .formed .limited .classes))) (r .names .0))
 
 returns-10 : tie.Need-returns-10
-returns-10 c made = rw (c .before .before .before .i9 .given .1) (λ r. goes-on r refl (c .field-read .ensures made) (r .names .0))
+returns-10 c made = rw (c .before .before .before .i9 .given .1) (λ r. goes-on r refl (c .field-read .ensures made (r .names .0)))
 
 returns-11 : tie.Need-returns-11
 returns-11 c made = rw (c .before .before .before .i10 .given .1) (λ r. goes-on r refl (c .field-written .ensures made))
@@ -211,7 +211,7 @@ returns-21 : tie.Need-returns-21
 returns-21 c made = rw (c .before .before .before .i19 .given .1) (λ r. goes-on r refl (c .numbers .ensures) (r .names .0))
 
 returns-22 : tie.Need-returns-22
-returns-22 c made = rw (c .before .before .before .i20 .given .1) (λ r. goes-on r refl (c .cast .ensures made) (r .names .0))
+returns-22 c made = rw (c .before .before .before .i20 .given .1) (λ r. goes-on r refl (c .cast .ensures made (r .names .0)))
 
 pub of-instruction-spec : {M : Type 1} → statement M
 of-instruction-spec =
@@ -232,7 +232,7 @@ of-instruction-spec =
     enum-known-i-6
     binary-requires
     enum-known-i-7
-    binary-requires-2
+    of-both-requires
     enum-known-i-8
     made-requires
     enum-known-i-9

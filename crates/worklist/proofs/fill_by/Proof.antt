@@ -10,7 +10,7 @@ use Rattle.flow.specs.Claim.{Claim}
 use Rattle.flow.specs.Verdict.{accepted, violated, verdict}
 use Rattle.flow.proofs.Verdicts.{violated-first}
 use Rattle.slots.specs.Layout.{claimIn, noMasks}
-use Rattle.rules.specs.Broken.{brokenOf}
+use Rattle.rules.specs.Broken.{noRule, brokenOf}
 use Rattle.rules.proofs.Numbers.{verdict-said}
 use Rattle.order.specs.Order.{Below}
 use Rattle.fixpoint.specs.Risen.{room}
@@ -42,7 +42,7 @@ returns c formed none =
     let p = programIn (c .before .before .before .before .before .before .args .t .now) in
     let said = verdict-said p (claimIn (loop .w)) (loop .broken) (loop .inv .0) in
     record {
-      accepting = said ∙ rw (eq-eqb (loop .broken .rule) 11 (c .if1 .taken));
+      accepting = said ∙ rw (eq-eqb (loop .broken .rule) noRule (c .if1 .taken));
       below = loop .inv .1 formed none .0;
     }
 
@@ -69,7 +69,7 @@ loop-again c =
     let k = claimIn (loop .w) in
     let b = loop .broken in
     let bad : verdict p k ≡ violated (b .rule) (b .method) (b .address) =
-    verdict-said p k b (loop .inv .0) ∙ rw (ne-eqb (b .rule) 11 (test .if1 .left)) in
+    verdict-said p k b (loop .inv .0) ∙ rw (ne-eqb (b .rule) noRule (test .if1 .left)) in
     let first = violated-first p k _ _ _ bad in (
       c .first-broken2 .ensures,
       λ formed none.

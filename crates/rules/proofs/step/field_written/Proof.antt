@@ -28,6 +28,12 @@ with-field-requires c κs = tt
 into-fields-requires : tie.Need-into-fields-requires
 into-fields-requires c κs = tt
 
+has-requires : tie.Need-has-requires
+has-requires c κs = tt
+
+own-requires : tie.Need-own-requires
+own-requires c κs = c .before .before .before .before .before .pre .1
+
 add-onward : tie.Need-add-onward
 add-onward c = omega arith
 
@@ -42,7 +48,8 @@ first-requires-2 c κs = tt
 
 returns : tie.Need-returns
 returns c =
-    let f = c .before .before .before in
+    let o = c .before .before .before in
+    let f = o .before .before in
     let h = f .before in
     let i = h .before in
     let r = i .before in
@@ -63,6 +70,8 @@ returns c =
       c .before .first .ensures,
       c .before .before .onward .ensures,
       stored,
+      o .own .ensures,
+      o .before .has .ensures,
       i .register2 .ensures,
       r .register .ensures,
       add-one (a .pc),
@@ -76,6 +85,8 @@ field-written-spec =
     register-requires-2
     with-field-requires
     into-fields-requires
+    has-requires
+    own-requires
     add-onward
     onward-requires
     first-requires

@@ -1,37 +1,52 @@
 -- `rules::write::binary` meets its contract. Assumes nothing.
-use native.Mathlib.Omega.{arith}
-use native.Mathlib.Numerals.{add-one}
+use mathlib.Core.Path.{_≡_, ap, _∙_}
+use mathlib.Core.Bool.{_&&_}
+use Prim.Native.Nat.{ℕ}
+use Rattle.mask.specs.Mask.{has}
+use Rattle.program.specs.Tables.{programIn}
+use Rattle.flow.specs.Claim.{registerAt}
+use Rattle.flow.specs.Flows.{numeric, kept}
+use Rattle.arithmetic.specs.Arithmetic.{divides}
+use Rattle.flow.specs.Rules.{numbersInto}
+use Rattle.slots.specs.Layout.{claimIn}
+use Rattle.rules.specs.Broken.{written}
+use Rattle.rules.proofs.Own.{zero-raised}
 use Rattle.rules.proofs.write.binary.Statement.{statement}
 use Rattle.rules.proofs.write.binary.Tie as tie
 
 register-requires : tie.Need-register-requires
 register-requires c κs = tt
 
-register-requires-2 : tie.Need-register-requires-2
-register-requires-2 c κs = tt
+divides-requires : tie.Need-divides-requires
+divides-requires c κs = tt
 
-add-register : tie.Need-add-register
-add-register c = omega arith
+has-requires : tie.Need-has-requires
+has-requires c κs = tt
 
-register-requires-3 : tie.Need-register-requires-3
-register-requires-3 c κs = tt
+both-requires : tie.Need-both-requires
+both-requires c κs = tt
 
-of-numbers-requires : tie.Need-of-numbers-requires
-of-numbers-requires c κs = tt
+own-requires : tie.Need-own-requires
+own-requires c κs = c .before .before .before .before .pre .1
 
-written-requires : tie.Need-written-requires
-written-requires c κs = omega arith
+of-both-requires : tie.Need-of-both-requires
+of-both-requires c κs = c .before .before .before .before .before .pre .0
 
 returns : tie.Need-returns
 returns c =
-    rw (
-      c .written .ensures,
-      c .before .of-numbers .ensures,
-      c .before .before .register3 .ensures,
-      c .before .before .before .register2 .ensures,
-      c .before .before .before .before .register .ensures,
-      add-one (c .before .before .before .before .before .args .pc),
-    )
+    let b = c .before .before in
+    let h = b .before in
+    let d = h .before in
+    let a = d .before .before .args in
+    let p = programIn (a .t .now) in
+    let cl = claimIn (a .w .now) in
+    let may : b .both .result ≡ divides (a .operation) && has (cl (registerAt (a .m) (a .pc) (a .right))) 62 =
+    b .both .ensures ∙ rw (d .divides .ensures, h .has .ensures, d .before .register .ensures) in
+    let left = registerAt (a .m) (a .pc) (a .left) in
+    let right = registerAt (a .m) (a .pc) (a .right) in
+    c .of-both .ensures
+    ∙ ap (written p cl (a .m) (a .pc) (a .to) (kept cl (numeric left (numeric right (numbersInto p (a .m) (a .pc) (a .to))))))
+    (c .before .own .ensures ∙ zero-raised p cl (a .m) (a .pc) (a .operation) (a .to) (a .left) (a .right) (b .both .result) may)
 
 pub binary-spec : {M : Type 1} → statement M
-binary-spec = tie.close (tie.spec register-requires register-requires-2 add-register register-requires-3 of-numbers-requires written-requires returns)
+binary-spec = tie.close (tie.spec register-requires divides-requires has-requires both-requires own-requires of-both-requires returns)

@@ -1,14 +1,19 @@
 -- `rules::write::cast` meets its contract. Assumes nothing.
-use mathlib.Core.Path.{_≡_, _∙_}
-use mathlib.Core.Bool.{not, _||_}
+use mathlib.Core.Path.{_≡_, ap, _∙_}
+use mathlib.Core.Bool.{Bool, not, _||_}
 use native.Mathlib.Omega.{arith}
 use native.Mathlib.Numerals.{add-one}
+use Rattle.instruction.specs.declared.Instruction.the-variants.{CheckCast}
 use Rattle.mask.specs.Mask.{has, every, subset}
 use Rattle.program.specs.Program.{classCount}
 use Rattle.program.specs.Tables.{programIn}
 use Rattle.program.proofs.Read.{classes-limit}
 use Rattle.search.specs.Search.{below}
+use Rattle.flow.specs.Rules.{raising}
+use Rattle.slots.specs.Layout.{claimIn}
 use Rattle.sets.proofs.Selected.{below-in}
+use Rattle.rules.specs.Broken.{brokenIn, ownRule}
+use Rattle.rules.proofs.Own.{cast-raised}
 use Rattle.rules.proofs.Classes.{of-subset}
 use Rattle.rules.proofs.write.cast.Statement.{statement}
 use Rattle.rules.proofs.write.cast.Tie as tie
@@ -37,18 +42,26 @@ subset-requires c κs = tt
 both-requires : tie.Need-both-requires
 both-requires c κs = tt
 
+fails-cast-requires : tie.Need-fails-cast-requires
+fails-cast-requires c κs = tt
+
+own-requires : tie.Need-own-requires
+own-requires c κs = c .before .before .before .before .before .before .before .before .pre .1
+
 written-requires : tie.Need-written-requires
 written-requires c κs = omega arith
 
 returns : tie.Need-returns
 returns c =
-    let d = c .before .before in
+    let x = c .before .before in
+    let d = x .before .before in
     let o = d .before .before in
     let b = o .before in
     let i = b .before in
     let r = i .before in
     let a = r .before .args in
     let p = programIn (a .t .now) in
+    let cl = claimIn (a .w .now) in
     let within : d .subset .result ≡ subset (o .common .result) (i .register2 .result) = d .subset .ensures in
     let passing : d .subset .result ≡ every (classCount p) (λ k. not (has (r .register .result) k) || (not (below p k (a .class)) || has (i .register2 .result) k)) =
     within
@@ -56,9 +69,14 @@ returns c =
     (below-in (a .t .now) (a .s .now) (r .before .pre .1) (r .register .result) (b .below .result) (o .common .result) (o .common .ensures) (a .class) (b .below .ensures))
     (classes-limit (a .t .now))
     (i .register2 .result) in
+    let later : c .before .own .result ≡ brokenIn cl (raising p (a .m) (a .pc) (CheckCast (a .register) (a .class))) =
+    c .before .own .ensures
+    ∙ ap (λ (t : Bool). ownRule p cl (a .m) (a .pc) t 4) (x .fails-cast .ensures (r .before .pre .1))
+    ∙ cast-raised p cl (a .m) (a .pc) (a .register) (a .class) (r .register .result) (r .register .ensures) in
     rw (
       c .written .ensures,
-      c .before .both .ensures,
+      later,
+      x .before .both .ensures,
       d .before .zero-passes .ensures,
       passing,
       i .register2 .ensures,
@@ -78,5 +96,7 @@ cast-spec =
     zero-passes-requires
     subset-requires
     both-requires
+    fails-cast-requires
+    own-requires
     written-requires
     returns)

@@ -29,6 +29,12 @@ called-requires c κs = tt
 enum-known-e-2 : tie.Need-enum-known-e-2
 enum-known-e-2 c = c .match .keys2
 
+raised-new-requires : tie.Need-raised-new-requires
+raised-new-requires c κs = tt
+
+enum-known-e-3 : tie.Need-enum-known-e-3
+enum-known-e-3 c = c .match .keys3
+
 with-status-requires : tie.Need-with-status-requires
 with-status-requires c κs = tt
 
@@ -52,18 +58,29 @@ returns c =
 returns-2 : tie.Need-returns-2
 returns-2 c =
     rw (
+      ← c .before .before .before .before .before .before .before .before .before .field-a .ensures,
+      ← c .before .before .before .before .before .before .before .before .field-b .ensures,
+      ← c .before .before .before .before .before .before .before .field-c .ensures,
+      ← c .before .before .before .before .before .before .value-of .ensures,
+      ← c .before .before .before .before .before .virtual-call .ensures,
+      c .before .before .e2 .given .1,
+    ) (c .raised-new .ensures)
+
+returns-3 : tie.Need-returns-3
+returns-3 c =
+    rw (
       ← c .before .before .before .before .before .before .before .before .before .before .field-a .ensures,
       ← c .before .before .before .before .before .before .before .before .before .field-b .ensures,
       ← c .before .before .before .before .before .before .before .before .field-c .ensures,
       ← c .before .before .before .before .before .before .before .value-of .ensures,
       ← c .before .before .before .before .before .before .virtual-call .ensures,
-      c .before .before .before .e2 .given .1,
+      c .before .before .before .e3 .given .1,
       c .only .ensures,
       c .before .with-status .ensures,
     )
 
-returns-3 : tie.Need-returns-3
-returns-3 c =
+returns-4 : tie.Need-returns-4
+returns-4 c =
     let e = c .before .before .before in
     let a = e .before .before .before .before .before .args in
     virtual-else (programIn (now (a .t)))
@@ -74,7 +91,7 @@ returns-3 c =
     (e .before .value-of .result)
     (e .virtual-call .result)
     (e .virtual-call .ensures)
-    (c .before .match .keys3)
+    (c .before .match .keys4)
 
 pub virtual-shift-spec : {M : Type 1} → statement M
 virtual-shift-spec =
@@ -88,9 +105,12 @@ virtual-shift-spec =
     enum-known-e
     called-requires
     enum-known-e-2
+    raised-new-requires
+    enum-known-e-3
     with-status-requires
     only-requires
     only-requires-2
     returns
     returns-2
-    returns-3)
+    returns-3
+    returns-4)

@@ -6,7 +6,8 @@ use native.Mathlib.Omega.{arith}
 use denote.Enum.Declared.{tagOf}
 use types.Run.{OneOf, miss}
 use Rattle.machine.specs.declared.Effect.{Effect}
-use Rattle.machine.specs.declared.Effect.the-variants.{Next, Jump, Write, Load, LoadStatic, Make, Store, StoreStatic, Call, Exit, Raise, Fail}
+use Rattle.machine.specs.declared.Effect.the-variants.{Next, Jump, Write, Load, LoadStatic, Make, Store, StoreStatic, Call, Exit, Raise}
+use Rattle.machine.specs.declared.Effect.the-variants.{RaiseNew, Fail}
 use Rattle.machine.proofs.Effect.{the-type}
 use Rattle.cells.specs.declared.Value.{Value}
 use Rattle.site.specs.Work.{goesTo, workOf}
@@ -30,6 +31,7 @@ others pc v g (StoreStatic x u) k = absurd (miss rest _ tt k)
 others pc v g (Call m x) k = refl
 others pc v g (Exit u) k = refl
 others pc v g (Raise o) k = refl
+others pc v g (RaiseNew x) k = absurd (miss rest _ tt k)
 others pc v g (Fail f) k = absurd (miss rest _ tt k)
 
 enum-told : tie.Need-enum-told
@@ -92,8 +94,14 @@ enum-known-e-7 c = c .match .keys8
 goes-to-requires-3 : tie.Need-goes-to-requires-3
 goes-to-requires-3 c κs = tt
 
+enum-known-e-8 : tie.Need-enum-known-e-8
+enum-known-e-8 c = c .match .keys9
+
 goes-to-requires-4 : tie.Need-goes-to-requires-4
 goes-to-requires-4 c κs = tt
+
+goes-to-requires-5 : tie.Need-goes-to-requires-5
+goes-to-requires-5 c κs = tt
 
 returns : tie.Need-returns
 returns c = rw (c .before .enum-told .given .1) (c .goes-to .ensures)
@@ -120,9 +128,12 @@ returns-8 : tie.Need-returns-8
 returns-8 c = rw (c .before .before .e7 .given .1) (c .goes-to3 .ensures)
 
 returns-9 : tie.Need-returns-9
-returns-9 c =
+returns-9 c = rw (c .before .before .e8 .given .1) (c .goes-to4 .ensures)
+
+returns-10 : tie.Need-returns-10
+returns-10 c =
     let a = c .before .before .args in
-    c .goes-to4 .ensures ∙ others (a .pc) (a .v) (a .g) (a .e) (c .before .match .keys9)
+    c .goes-to5 .ensures ∙ others (a .pc) (a .v) (a .g) (a .e) (c .before .match .keys10)
 
 pub work-of-spec : {M : Type 1} → statement M
 work-of-spec =
@@ -148,7 +159,9 @@ work-of-spec =
     kept-requires
     enum-known-e-7
     goes-to-requires-3
+    enum-known-e-8
     goes-to-requires-4
+    goes-to-requires-5
     returns
     returns-2
     returns-3
@@ -157,4 +170,5 @@ work-of-spec =
     returns-6
     returns-7
     returns-8
-    returns-9)
+    returns-9
+    returns-10)

@@ -40,6 +40,15 @@ cast-goes-to c = omega arith
 goes-to-requires : tie.Need-goes-to-requires
 goes-to-requires c κs = tt
 
+enum-known-e-3 : tie.Need-enum-known-e-3
+enum-known-e-3 c = c .match .keys3
+
+cast-goes-to-2 : tie.Need-cast-goes-to-2
+cast-goes-to-2 c = omega arith
+
+goes-to-requires-2 : tie.Need-goes-to-requires-2
+goes-to-requires-2 c κs = tt
+
 work-of-requires : tie.Need-work-of-requires
 work-of-requires c κs = tt
 
@@ -74,6 +83,19 @@ returns-3 : tie.Need-returns-3
 unfolding decidedIn
 returns-3 c =
     rw (
+      ← c .before .before .before .before .before .before .before .before .before .before .field-d .ensures,
+      ← c .before .before .before .before .before .before .before .before .before .operation-of .ensures,
+      ← c .before .before .before .before .before .before .before .before .field-a .ensures,
+      ← c .before .before .before .before .before .before .before .value-of .ensures,
+      ← c .before .before .before .before .before .before .value-of2 .ensures,
+      ← c .before .before .before .before .before .binop .ensures,
+      c .before .before .before .e3 .given .1,
+    ) (c .goes-to2 .ensures)
+
+returns-4 : tie.Need-returns-4
+unfolding decidedIn
+returns-4 c =
+    rw (
       c .work-of .ensures,
       c .before .before .binop .ensures,
       c .before .before .before .value-of2 .ensures,
@@ -99,7 +121,11 @@ binop-work-spec =
     enum-known-e-2
     cast-goes-to
     goes-to-requires
+    enum-known-e-3
+    cast-goes-to-2
+    goes-to-requires-2
     work-of-requires
     returns
     returns-2
-    returns-3)
+    returns-3
+    returns-4)

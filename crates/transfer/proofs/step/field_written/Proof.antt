@@ -19,6 +19,7 @@ use Rattle.order.specs.Raised.{nothing}
 use Rattle.order.proofs.Raising.{raised-both}
 use Rattle.raise.proofs.Places.{own-inside}
 use Rattle.transfer.proofs.Stored.{raised-last, in-set, stored}
+use Rattle.transfer.proofs.Raising.{raised-after}
 use Rattle.transfer.proofs.step.field_written.Statement.{statement}
 use Rattle.transfer.proofs.step.field_written.Tie as tie
 
@@ -43,11 +44,15 @@ into-fields-requires c κs = tt
 mark-requires : tie.Need-mark-requires
 mark-requires c κs = tt
 
+null-used-requires : tie.Need-null-used-requires
+null-used-requires c κs = tt
+
 returns : tie.Need-returns
 returns c made formed lm lp =
-    let with-field = c .before .before .before .with-field in
-    let register2 = c .before .before .before .before .register2 in
-    let earlier = c .before .before .before .before .before .before in
+    let stores = c .before .before in
+    let with-field = stores .before .before .before .with-field in
+    let register2 = stores .before .before .before .before .register2 in
+    let earlier = stores .before .before .before .before .before .before in
     let register = earlier .register in
     let at-onward = earlier .before .before .onward in
     let a = earlier .before .before .before .before .args in
@@ -62,11 +67,13 @@ returns c made formed lm lp =
     let few = classes-limit (a .t .now) in
     let (g, l, own) = in-set p (a .m) (a .pc) (a .from) (a .object) (a .field) few (with-field .result) cl cl bits k s in
     own-inside p formed (fieldOf k (a .field)) (l, field-exists p k (a .field) own, own) in
-    raised-both (onward p (a .m) (a .pc) (suc (a .pc))) (f & nothing) _ _ _
+    raised-after _ _ _ _ _ _ _
+    (raised-both (onward p (a .m) (a .pc) (suc (a .pc))) (f & nothing) _ _ _
     ((rw (add-one (a .pc)) at (at-onward .ensures)) formed lm lp)
     (raised-last f _ _
     (stored p (a .m) (a .pc) (a .from) (a .object) (a .field) (classes-limit (a .t .now)) (with-field .result) cl _ bits
-    (rw (register2 .ensures) at (c .before .into-fields .ensures inside))))
+    (rw (register2 .ensures) at (stores .before .into-fields .ensures inside)))))
+    (c .null-used .ensures made formed lm)
 
 pub field-written-spec : {M : Type 1} → statement M
 field-written-spec =
@@ -79,4 +86,5 @@ field-written-spec =
     with-field-requires
     into-fields-requires
     mark-requires
+    null-used-requires
     returns)

@@ -12,6 +12,7 @@ use Rattle.flow.specs.Claim.{registerAt}
 use Rattle.slots.specs.Layout.{claimIn}
 use Rattle.sets.proofs.Selected.{below-in}
 use Rattle.transfer.proofs.Stored.{thrown-raised}
+use Rattle.transfer.proofs.Raising.{raised-beside}
 use Rattle.transfer.proofs.step.thrown.Statement.{statement}
 use Rattle.transfer.proofs.step.thrown.Tie as tie
 
@@ -27,12 +28,16 @@ common-requires c κs = tt
 raised-requires : tie.Need-raised-requires
 raised-requires c κs = tt
 
+null-used-requires : tie.Need-null-used-requires
+null-used-requires c κs = tt
+
 returns : tie.Need-returns
 returns c made formed lm =
-    let common = c .before .before .common in
-    let at-below = c .before .before .before .below in
-    let register = c .before .before .before .before .register in
-    let a = c .before .before .before .before .before .before .args in
+    let thrown = c .before .before in
+    let common = thrown .before .before .common in
+    let at-below = thrown .before .before .before .below in
+    let register = thrown .before .before .before .before .register in
+    let a = thrown .before .before .before .before .before .before .args in
     let p = programIn (a .t .now) in
     let cl = claimIn (a .w .now) in
     let from = cl (registerAt (a .m) (a .pc) (a .from)) in
@@ -41,8 +46,10 @@ returns c made formed lm =
     (at-below .ensures)
     k
     ∙ ap (λ (x : Mask). has x k && (ltb k (classCount p) && below p k 1)) (register .ensures) in
-    thrown-raised p (a .m) (a .pc) (a .from) (common .result) cl _ bits (c .raised .ensures made formed lm)
+    raised-beside _ _ _ _ _ _ _
+    (thrown-raised p (a .m) (a .pc) (a .from) (common .result) cl _ bits (thrown .raised .ensures made formed lm))
+    (c .null-used .ensures made formed lm)
 
 pub thrown-spec : {M : Type 1} → statement M
 thrown-spec =
-    tie.close (tie.spec register-requires below-requires common-requires raised-requires returns)
+    tie.close (tie.spec register-requires below-requires common-requires raised-requires null-used-requires returns)

@@ -1,18 +1,20 @@
 //! The reader's refusals of values and of code that falls through (5 and 6).
 
+mod calls;
+
 use compare::opcode::*;
-use compare::program::{Class, Field, Handler, Instruction, Method, Program, STATIC, VIRTUAL};
+use compare::program::{Class, Field, Instruction, Method, Program, STATIC, VIRTUAL};
 use compare::reader::read;
 use compare::Refusal;
 
-/// Three classes, two fields, one static; method 0 at line 7 with 4 registers
-/// and code of three lines, method 1 at line 11 with one line.
+/// Six classes, two fields, one static; method 0 at line 10 with 4 registers
+/// and code of three lines, method 1 at line 14 with one line.
 fn program() -> Program {
     let nop = Instruction::new(NOP, 0, 0, 0, 0);
     let ret = Instruction::new(RETURN_VOID, 0, 0, 0, 0);
     Program {
-        classes: vec![Class { superclass: 0xff }, Class { superclass: 0 }, Class { superclass: 1 }],
-        fields: vec![Field { class: 0 }, Field { class: 2 }],
+        classes: [0xff, 0, 1, 1, 1, 1].map(|superclass| Class { superclass }).to_vec(),
+        fields: vec![Field { class: 0 }, Field { class: 5 }],
         statics: 1,
         methods: vec![
             Method::new(0, 0, STATIC, 4, 0).with_code(vec![nop, nop, ret]),
@@ -32,12 +34,12 @@ fn changed(change: impl FnOnce(&mut Program)) -> Result<(), (u8, u32)> {
     answer(&program)
 }
 
-/// Whether this is allowed as the first instruction, at line 8.
+/// Whether this is allowed as the first instruction, at line 11.
 fn allowed(o: u8, a: u8, b: u8, c: u8, d: u32) -> bool {
     match changed(|p| p.methods[0].code[0] = Instruction::new(o, a, b, c, d)) {
         Ok(()) => true,
         Err(refusal) => {
-            assert_eq!(refusal, (5, 8));
+            assert_eq!(refusal, (5, 11));
             false
         }
     }
@@ -49,9 +51,29 @@ fn tables() {
     assert_eq!(changed(|p| p.classes[0].superclass = 0), Err((5, 1)));
     assert_eq!(changed(|p| p.classes[1].superclass = 0xff), Err((5, 2)));
     assert_eq!(changed(|p| p.classes[1].superclass = 1), Err((5, 2)));
-    assert_eq!(changed(|p| p.classes[2].superclass = 2), Err((5, 3)));
-    assert_eq!(changed(|p| p.classes[2].superclass = 0), Ok(()));
-    assert_eq!(changed(|p| p.fields[1].class = 3), Err((5, 5)));
+    assert_eq!(changed(|p| p.classes[5].superclass = 5), Err((5, 6)));
+    for superclass in 0..5 {
+        assert_eq!(changed(|p| p.classes[5].superclass = superclass), Ok(()));
+    }
+    assert_eq!(changed(|p| p.fields[1].class = 6), Err((5, 8)));
+    assert_eq!(changed(|p| p.fields[1].class = 3), Ok(()));
+}
+
+#[test]
+fn classes_2_to_4_lie_right_below_1() {
+    for class in 2..=4 {
+        for superclass in [0, 2, 3, 4, 5, 0xff] {
+            let answer = changed(|p| p.classes[class].superclass = superclass);
+            assert_eq!(answer, Err((5, class as u32 + 1)));
+        }
+    }
+    let two = changed(|p| p.classes[2..4].fill(Class { superclass: 0 }));
+    assert_eq!(two, Err((5, 3)));
+    let falling = changed(|p| {
+        p.methods[0].code[2].o = NOP;
+        p.classes[4].superclass = 0;
+    });
+    assert_eq!(falling, Err((5, 5)));
 }
 
 #[test]
@@ -60,17 +82,17 @@ fn method_frames() {
         let method = Method::new(class, name, kind, registers, arguments);
         changed(|p| p.methods[m] = method.with_code(p.methods[m].code.clone()))
     };
-    assert_eq!(header(0, 0, 9, VIRTUAL, 4, 1), Err((5, 7)));
-    assert_eq!(header(0, 0, 9, STATIC, 4, 1), Err((5, 7)));
+    assert_eq!(header(0, 0, 9, VIRTUAL, 4, 1), Err((5, 10)));
+    assert_eq!(header(0, 0, 9, STATIC, 4, 1), Err((5, 10)));
     assert_eq!(header(1, 2, 0xff, VIRTUAL, 16, 16), Ok(()));
-    assert_eq!(header(1, 3, 0, VIRTUAL, 1, 1), Err((5, 11)));
-    assert_eq!(header(1, 1, 0, VIRTUAL, 1, 0), Err((5, 11)));
-    assert_eq!(header(1, 1, 0, 2, 1, 1), Err((5, 11)));
-    assert_eq!(header(1, 1, 0, STATIC, 0, 0), Err((5, 11)));
-    assert_eq!(header(1, 1, 0, STATIC, 17, 0), Err((5, 11)));
-    assert_eq!(header(1, 1, 0, STATIC, 2, 3), Err((5, 11)));
+    assert_eq!(header(1, 6, 0, VIRTUAL, 1, 1), Err((5, 14)));
+    assert_eq!(header(1, 1, 0, VIRTUAL, 1, 0), Err((5, 14)));
+    assert_eq!(header(1, 1, 0, 2, 1, 1), Err((5, 14)));
+    assert_eq!(header(1, 1, 0, STATIC, 0, 0), Err((5, 14)));
+    assert_eq!(header(1, 1, 0, STATIC, 17, 0), Err((5, 14)));
+    assert_eq!(header(1, 1, 0, STATIC, 2, 3), Err((5, 14)));
     // Class and name repeated, with another kind and count.
-    assert_eq!(header(1, 0, 0, VIRTUAL, 2, 1), Err((5, 11)));
+    assert_eq!(header(1, 0, 0, VIRTUAL, 2, 1), Err((5, 14)));
     assert_eq!(header(1, 0, 1, VIRTUAL, 2, 1), Ok(()));
 }
 
@@ -80,7 +102,7 @@ fn of_three_alike_the_second_is_reported() {
         p.methods[1].class = 0;
         p.methods.push(p.methods[1].clone());
     });
-    assert_eq!(three, Err((5, 11)));
+    assert_eq!(three, Err((5, 14)));
 }
 
 #[test]
@@ -125,48 +147,13 @@ fn operands() {
     assert!(!allowed(IF, 0, 0, 12, 0) && !allowed(IF, 0, 0, 0xff, 0));
     assert!(allowed(BINOP, 3, 3, 3, 10) && !allowed(BINOP, 3, 3, 3, 11));
     assert!(!allowed(BINOP, 3, 3, 4, 0) && !allowed(UNOP, 0, 0, 2, 0));
-    assert!(allowed(NEW_INSTANCE, 3, 2, 0, 0) && !allowed(NEW_INSTANCE, 3, 3, 0, 0));
-    assert!(allowed(CHECK_CAST, 3, 2, 0, 0) && !allowed(CHECK_CAST, 3, 3, 0, 0));
-    assert!(allowed(INSTANCE_OF, 3, 3, 2, 0) && !allowed(INSTANCE_OF, 3, 3, 3, 0));
+    assert!(allowed(NEW_INSTANCE, 3, 5, 0, 0) && !allowed(NEW_INSTANCE, 3, 6, 0, 0));
+    assert!(allowed(CHECK_CAST, 3, 5, 0, 0) && !allowed(CHECK_CAST, 3, 6, 0, 0));
+    assert!(allowed(INSTANCE_OF, 3, 3, 5, 0) && !allowed(INSTANCE_OF, 3, 3, 6, 0));
     assert!(allowed(IPUT, 3, 3, 1, 0) && !allowed(IPUT, 3, 3, 2, 0) && !allowed(IGET, 0, 4, 0, 0));
     assert!(allowed(SGET, 3, 0, 0, 0) && !allowed(SGET, 3, 1, 0, 0) && !allowed(SPUT, 4, 0, 0, 0));
     // An opcode past the last is a value, not a kind.
     assert!(!allowed(0x15, 0, 0, 0, 0) && !allowed(0xff, 0, 0, 0, 0));
-}
-
-#[test]
-fn calls() {
-    assert!(allowed(INVOKE_VIRTUAL, 0xff, 4, 0, 0) && allowed(INVOKE_VIRTUAL, 0, 1, 3, 0));
-    assert!(!allowed(INVOKE_VIRTUAL, 0, 0, 0, 0) && !allowed(INVOKE_VIRTUAL, 0, 1, 4, 0));
-    assert!(!allowed(INVOKE_VIRTUAL, 0, 5, 0, 0) && !allowed(INVOKE_VIRTUAL, 0, 0xff, 1, 0));
-    assert!(allowed(INVOKE_STATIC, 0, 0, 0, 0) && !allowed(INVOKE_STATIC, 0, 0, 1, 0));
-    assert!(allowed(INVOKE_STATIC, 1, 2, 2, 0) && !allowed(INVOKE_STATIC, 1, 2, 3, 0));
-    assert!(!allowed(INVOKE_STATIC, 1, 1, 0, 0) && !allowed(INVOKE_STATIC, 1, 3, 0, 0));
-    assert!(!allowed(INVOKE_STATIC, 2, 0, 0, 0));
-    // A virtual callee is refused at the call, a callee bad in another way at
-    // its own line.
-    let with_callee = |change: fn(&mut Method)| {
-        changed(|p| {
-            p.methods[0].code[0] = Instruction::new(INVOKE_STATIC, 1, 2, 0, 0);
-            change(&mut p.methods[1]);
-        })
-    };
-    assert_eq!(with_callee(|callee| callee.kind = VIRTUAL), Err((5, 8)));
-    assert_eq!(with_callee(|callee| callee.kind = 2), Err((5, 8)));
-    assert_eq!(with_callee(|callee| callee.registers = 1), Err((5, 11)));
-}
-
-#[test]
-fn handlers() {
-    let handler = |from, to, target, class| {
-        changed(|p| p.methods[0].handlers = vec![Handler::new(from, to, target, class)])
-    };
-    assert_eq!(handler(0, 3, 2, 2), Ok(()));
-    for [from, to, target, class] in
-        [[1, 1, 0, 0], [2, 1, 0, 0], [0, 4, 0, 0], [0, 1, 3, 0], [0, 1, 0, 3]]
-    {
-        assert_eq!(handler(from, to, target, class), Err((5, 11)));
-    }
 }
 
 #[test]
@@ -175,8 +162,8 @@ fn falling_through() {
         let with_last = changed(|p| p.methods[1].code[0] = Instruction::new(o, 0, 0, 0, 0));
         match o {
             GOTO | RETURN | RETURN_VOID | THROW => assert_eq!(with_last, Ok(())),
-            INVOKE_VIRTUAL => assert_eq!(with_last, Err((5, 12))),
-            _ => assert_eq!(with_last, Err((6, 12))),
+            INVOKE_VIRTUAL => assert_eq!(with_last, Err((5, 15))),
+            _ => assert_eq!(with_last, Err((6, 15))),
         }
     }
     // The first line wins; on one line 5 comes first.
@@ -186,10 +173,10 @@ fn falling_through() {
             change(p);
         })
     };
-    assert_eq!(falling(|_| ()), Err((6, 10)));
-    assert_eq!(falling(|p| p.methods[0].code[2].a = 1), Err((5, 10)));
-    assert_eq!(falling(|p| p.methods[0].kind = 7), Err((5, 7)));
-    assert_eq!(falling(|p| p.methods[1].kind = 7), Err((6, 10)));
+    assert_eq!(falling(|_| ()), Err((6, 13)));
+    assert_eq!(falling(|p| p.methods[0].code[2].a = 1), Err((5, 13)));
+    assert_eq!(falling(|p| p.methods[0].kind = 7), Err((5, 10)));
+    assert_eq!(falling(|p| p.methods[1].kind = 7), Err((6, 13)));
 }
 
 #[test]
@@ -198,5 +185,5 @@ fn a_frame_out_of_order_hides_earlier_values() {
     program.classes[0].superclass = 0;
     assert_eq!(answer(&program), Err((5, 1)));
     let text = [program.text(), b"03\n".to_vec()].concat();
-    assert_eq!(read(&text), Err(Refusal::new(4, 13)));
+    assert_eq!(read(&text), Err(Refusal::new(4, 16)));
 }
