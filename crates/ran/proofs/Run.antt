@@ -20,14 +20,14 @@ use Rattle.shift.specs.declared.Run.{Run}
 use Rattle.shift.specs.declared.Stop.the-variants as stop
 use Rattle.shift.specs.declared.Stay.{Stay}
 use Rattle.shift.specs.declared.At as shift
-use Rattle.shift.specs.Stay.{isWent, isReady, isOpen, againLeft, atOf, isRunning, isNo, runsOn}
+use Rattle.shift.specs.Stay.{isWent, isOpen, againLeft, atOf, isRunning, isNo, runsOn}
 use Rattle.shift.specs.Shift.{stopped}
 use Rattle.drive.specs.Models.{Lent, Done, done, looped}
-use Rattle.turns.specs.Turns.{applied, executed}
+use Rattle.turns.specs.Turns.{newDone, applied, executed}
 use Rattle.lies.specs.Lies.{statusOf, Lies, Roomy}
 use Rattle.lies.proofs.Staying.{failed-lies}
-use Rattle.shifting.specs.Shifting.{Come}
-use Rattle.shifting.proofs.Applied.{applied-lies}
+use Rattle.shifting.specs.Shifting.{Come, Shifted}
+use Rattle.shifting.proofs.Applied.{applied-lies, raised-lies}
 use Rattle.shifting.proofs.Unwound.{unwound-lies}
 use Rattle.rounds.specs.Rounds.{stayIn, forthDone, backDone, roundDone, runs, turnsOf, runDone}
 use Rattle.rounds.proofs.Falls.{run-falls}
@@ -45,11 +45,14 @@ stay left top m pc h = record { left = left; top = top; method = m; pc = pc; how
 module _ (t : List ℕ) (formed : Formed (programIn t)) (before : Lent) (roomy : Roomy before) (n : ℕ) (few : n < 18446744073709551615) where
   module _ (s : State) where
     -- ---- a round
-    -- an instruction that does not stay in its frame, or raises a new object
-    by-applied : (k : Run) → k .stop ≡ stop.No → (left top m pc : ℕ) (h : How) (now : Lent) → isReady h ≡ true → isWent h ≡ false
-        → Here (programIn t) n s before (k .tally) (stay left top m pc h) now h
-        → Rounded (programIn t) n s before (applied t now (atOf (programIn t) k (stay left top m pc h)))
-    by-applied k e left top m pc x now ready stays w =
+    -- an instruction that does not stay in its frame, or raises a new object, by what then lies in the slices
+    by-shift : (k : Run) → k .stop ≡ stop.No → (left top m pc : ℕ) (h : How) (now : Lent) → isWent h ≡ false
+        → (w : Here (programIn t) n s before (k .tally) (stay left top m pc h) now h) → (d : List ℕ → Lent → shift.At → Done Run)
+        → (Come (programIn t) (w .frame) (atOf (programIn t) k (stay left top m pc h))
+        → Shifted (programIn t) (w .going .state) before now (atOf (programIn t) k (stay left top m pc h) .run)
+        (d t now (atOf (programIn t) k (stay left top m pc h))))
+        → Rounded (programIn t) n s before (d t now (atOf (programIn t) k (stay left top m pc h)))
+    by-shift k e left top m pc x now stays w d lies =
         let h : shift.At = atOf (programIn t) k (stay left top m pc x) in
         let again : h .run .left ≡ suc left = rw stays (again-is left (omega (arith, w .going .few))) in
         let come : Come (programIn t) (w .frame) h =
@@ -60,9 +63,8 @@ module _ (t : List ℕ) (formed : Formed (programIn t)) (before : Lent) (roomy :
         } in
         shifted-on (programIn t) formed n s before (h .run) now
         (as-many (programIn t) n (suc left) s before (k .tally) now (w .going) (h .run .left) again) (omega (arith, again))
-        (applied t now h)
-        (applied-lies t formed (w .going .state) before roomy now (w .going .shaped) (w .frame) (w .rest) (w .at) h come e (w .going .lies)
-        x refl ready (w .left))
+        (d t now h)
+        (lies come)
 
     -- what comes after the steps that stay in the frame, by how the last one ended
     by-how : (k : Run) → k .stop ≡ stop.No → (left top m pc : ℕ) (h : How) (now : Lent)
@@ -73,8 +75,16 @@ module _ (t : List ℕ) (formed : Formed (programIn t)) (before : Lent) (roomy :
         pick-cases (λ (q : Run). Rounded (programIn t) n s before (done q now)) (ltb 0 left) (stopped r stop.Outside) r
         (λ l. record { going = w .0; stops = λ _. (ltb-true 0 left l, w .1 (ltb-true 0 left l)) })
         (λ _. goes (programIn t) formed n s before r now e (w .0))
-    by-how k e left top m pc Leaves now w = by-applied k e left top m pc Leaves now refl refl w
-    by-how k e left top m pc (Raises c) now w = by-applied k e left top m pc (Raises c) now refl refl w
+    by-how k e left top m pc Leaves now w =
+        by-shift k e left top m pc Leaves now refl w applied
+        (λ come.
+        applied-lies t formed (w .going .state) before roomy now (w .going .shaped) (w .frame) (w .rest) (w .at) _ come e (w .going .lies)
+        (w .left))
+    by-how k e left top m pc (Raises c) now w =
+        by-shift k e left top m pc (Raises c) now refl w newDone
+        (λ come.
+        raised-lies t formed (w .going .state) before roomy now (w .going .shaped) (w .frame) (w .rest) (w .at) _ come e (w .going .lies)
+        c refl (w .left))
     by-how k e left top m pc (Failed f) now w =
         let again : againLeft left (Failed f) ≡ suc left = again-is left (omega (arith, w .going .few)) in
         let fails =

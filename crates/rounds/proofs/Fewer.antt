@@ -37,10 +37,12 @@ use Rattle.shift.specs.declared.Stop.the-variants as stop
 use Rattle.shift.specs.Places.{topOf}
 use Rattle.shift.specs.Shift.{tallied, counted, stopped, withStatus, leaving, only, grownBy, shifted, pendingOf, unwoundBy, handled}
 use Rattle.shift.specs.Shift.{outsideOf, unwound}
-use Rattle.shift.specs.Stay.{isReady, makingBy, isOpen, isNo, runsOn, exitsOf, othersBy, othersOf}
+use Rattle.shift.specs.Stay.{isLeaves, isRaises, raisedClass, isOpen, isNo, runsOn, exitsOf, othersBy, othersOf}
 use Rattle.drive.specs.Models.{Lent, Done, done}
 use Rattle.turns.specs.Turns as turns
-use Rattle.turns.specs.Turns.{Shifting, shiftIn, shiftDone, makeShifting, staticShifting, virtualShifting, leaveShifting, throwShifting, unwindShifting, makeDone, staticDone, virtualDone, leaveDone, throwDone, fromThrow, fromExit, fromVirtual, applied, executed, unwindDone}
+use Rattle.turns.specs.Turns.{Shifting, shiftIn, shiftDone, makeShifting, staticShifting, virtualShifting, leaveShifting, throwShifting}
+use Rattle.turns.specs.Turns.{unwindShifting, makeDone, staticDone, virtualDone, leaveDone, throwDone, fromThrow, fromExit, fromVirtual}
+use Rattle.turns.specs.Turns.{applied, executed, unwindDone, newShifting, newDone, fromRaises}
 use Rattle.rounds.specs.Rounds.{methodIn, addressIn, turnsOf}
 
 -- both of two tests that pass together
@@ -79,12 +81,6 @@ module _ (p : Program) (h : At) (b n : ℕ) (l : h .run .left ≤ n) where
 
   raise-few : (k : ℕ) → Few (RaiseNew k)
   raise-few k = grown-few k nowhere 16 (Raised (h .run .tally .made))
-
-  making-few : (e : How) → Few (makingBy e (h .word))
-  making-few how.Went = make-few (aOf (h .word)) (bOf (h .word))
-  making-few how.Leaves = make-few (aOf (h .word)) (bOf (h .word))
-  making-few (how.Raises k) = raise-few k
-  making-few (how.Failed e) = make-few (aOf (h .word)) (bOf (h .word))
 
   call-few : (m c : ℕ) → Few (Call m c)
   call-few m c =
@@ -143,7 +139,7 @@ module _ (t : List ℕ) (m : Lent) (h : At) (n : ℕ) (l : h .run .left ≤ n) w
   throws-few =
       pick-cases Ends (eqb (h .opcode) 18) (throwDone t m h) (makeDone t m h)
       (λ _. shift-few throwShifting (throw-few (programIn t) h (turns.belowIn m h) n l (turns.classIn m h) (valueOf (turns.valueIn m h))))
-      (λ _. shift-few makeShifting (making-few (programIn t) h (turns.belowIn m h) n l (h .how)))
+      (λ _. shift-few makeShifting (make-few (programIn t) h (turns.belowIn m h) n l (aOf (h .word)) (bOf (h .word))))
 
   exits-few : Ends (fromExit t m h)
   exits-few =
@@ -164,10 +160,14 @@ module _ (t : List ℕ) (m : Lent) (h : At) (n : ℕ) (l : h .run .left ≤ n) w
       (λ _. shift-few staticShifting (call-few (programIn t) h (turns.belowIn m h) n l (aOf (h .word)) (cOf (h .word))))
       (λ _. virtuals-few)
 
-  pub executed-few : turnsOf (executed t m h .result) ≤ n
-  executed-few =
-      pick-cases Ends (isReady (h .how)) (applied t m h) (done (othersOf h) m) (λ _. applied-few)
+  raises-few : Ends (fromRaises t m h)
+  raises-few =
+      pick-cases Ends (isRaises (h .how)) (newDone t m h) (done (othersOf h) m)
+      (λ _. shift-few newShifting (raise-few (programIn t) h (turns.belowIn m h) n l (raisedClass (h .how))))
       (λ _. failed-few (programIn t) h 0 n l (h .how))
+
+  pub executed-few : turnsOf (executed t m h .result) ≤ n
+  executed-few = pick-cases Ends (isLeaves (h .how)) (applied t m h) (fromRaises t m h) (λ _. applied-few) (λ _. raises-few)
 
   pub unwind-few : turnsOf (unwindDone t m h .result) ≤ n
   unwind-few = shift-few unwindShifting (unwound-few (programIn t) h 0 n l (turns.methodIn m h) (turns.addressIn m h) (turns.classIn m h))

@@ -9,10 +9,8 @@ use types.Run.{OneOf, miss}
 use Rattle.instruction.specs.Word.{pick}
 use Rattle.cells.specs.declared.Value.{Value}
 use Rattle.cells.specs.Reads.{objectPlace}
-use Rattle.machine.specs.declared.Effect.the-variants.{Make}
 use Rattle.site.specs.declared.How.{How}
 use Rattle.site.specs.declared.How.the-variants as how
-use Rattle.site.specs.Site.{aOf, bOf}
 use Rattle.site.proofs.How as how-type
 use Rattle.turn.specs.declared.Status.{Status}
 use Rattle.turn.specs.declared.Status.the-variants.{Running, Raised, Done, Uncaught, Failed}
@@ -22,7 +20,7 @@ use Rattle.shift.specs.declared.Stop.{Stop}
 use Rattle.shift.specs.declared.Stop.the-variants as stop
 use Rattle.shift.specs.Places.{thrownBy}
 use Rattle.shift.specs.Shift.{stopped, pendingOf}
-use Rattle.shift.specs.Stay.{isWent, isReady, makingBy, isRunning, isOpen, isNo, othersBy}
+use Rattle.shift.specs.Stay.{isWent, isLeaves, isRaises, raisedClass, isRunning, isOpen, isNo, othersBy}
 use Rattle.shift.proofs.Stop as stop-type
 
 -- ---- how an instruction ended
@@ -36,23 +34,23 @@ not-went how.Leaves k = refl
 not-went (how.Raises c) k = refl
 not-went (how.Failed f) k = refl
 
-abbrev unready : List ℕ
-unready = 0 ∷ 3 ∷ []
+abbrev unleft : List ℕ
+unleft = 0 ∷ 2 ∷ 3 ∷ []
 
-pub not-ready : (e : How) → OneOf unready (tagOf how-type.the-type e) → isReady e ≡ false
-not-ready how.Went k = refl
-not-ready how.Leaves k = absurd (miss unready _ tt k)
-not-ready (how.Raises c) k = absurd (miss unready _ tt k)
-not-ready (how.Failed f) k = refl
+pub not-leaves : (e : How) → OneOf unleft (tagOf how-type.the-type e) → isLeaves e ≡ false
+not-leaves how.Went k = refl
+not-leaves how.Leaves k = absurd (miss unleft _ tt k)
+not-leaves (how.Raises c) k = refl
+not-leaves (how.Failed f) k = refl
 
 abbrev unnew : List ℕ
 unnew = 0 ∷ 1 ∷ 3 ∷ []
 
-pub not-raised : (e : How) (w : ℕ) → OneOf unnew (tagOf how-type.the-type e) → makingBy e w ≡ Make (aOf w) (bOf w)
-not-raised how.Went w k = refl
-not-raised how.Leaves w k = refl
-not-raised (how.Raises c) w k = absurd (miss unnew _ tt k)
-not-raised (how.Failed f) w k = refl
+pub not-raises : (e : How) → OneOf unnew (tagOf how-type.the-type e) → (isRaises e ≡ false) × (raisedClass e ≡ 0)
+not-raises how.Went k = (refl, refl)
+not-raises how.Leaves k = (refl, refl)
+not-raises (how.Raises c) k = absurd (miss unnew _ tt k)
+not-raises (how.Failed f) k = (refl, refl)
 
 abbrev unfailed : List ℕ
 unfailed = 0 ∷ 1 ∷ 2 ∷ []

@@ -5,13 +5,11 @@ use Prim.Native.Nat.{ℕ, _+_, _%_}
 use lib.Dec.{eqb, ltb}
 use Rattle.instruction.specs.Word.{pick}
 use Rattle.program.specs.Program.{Program, codeLength, wordAt}
-use Rattle.machine.specs.declared.Effect.{Effect}
-use Rattle.machine.specs.declared.Effect.the-variants.{Make, RaiseNew}
 use Rattle.site.specs.declared.Gone.{Gone}
 use Rattle.site.specs.declared.How.{How}
 use Rattle.site.specs.declared.How.the-variants as how
 use Rattle.site.specs.declared.Site.{Site}
-use Rattle.site.specs.Site.{opcodeOf, aOf, bOf}
+use Rattle.site.specs.Site.{opcodeOf}
 use Rattle.turn.specs.declared.Status.{Status}
 use Rattle.turn.specs.declared.Status.the-variants.{Running, Raised, Done, Uncaught, Failed}
 use Rattle.shift.specs.declared.At.{At}
@@ -30,19 +28,24 @@ isWent how.Leaves = false
 isWent (how.Raises c) = false
 isWent (how.Failed e) = false
 
--- at an instruction that does not stay in its frame, or at one that raises a new object
-abbrev pub isReady : How → Bool
-isReady how.Went = false
-isReady how.Leaves = true
-isReady (how.Raises c) = true
-isReady (how.Failed e) = false
+abbrev pub isLeaves : How → Bool
+isLeaves how.Went = false
+isLeaves how.Leaves = true
+isLeaves (how.Raises c) = false
+isLeaves (how.Failed e) = false
 
--- the effect that makes an object: the one that is raised, or new-instance's
-abbrev pub makingBy : How → ℕ → Effect
-makingBy how.Went w = Make (aOf w) (bOf w)
-makingBy how.Leaves w = Make (aOf w) (bOf w)
-makingBy (how.Raises c) w = RaiseNew c
-makingBy (how.Failed e) w = Make (aOf w) (bOf w)
+-- an instruction raises a new object, and its class
+abbrev pub isRaises : How → Bool
+isRaises how.Went = false
+isRaises how.Leaves = false
+isRaises (how.Raises c) = true
+isRaises (how.Failed e) = false
+
+abbrev pub raisedClass : How → ℕ
+raisedClass how.Went = 0
+raisedClass how.Leaves = 0
+raisedClass (how.Raises c) = c
+raisedClass (how.Failed e) = 0
 
 -- ---- a run that stays in its frame
 

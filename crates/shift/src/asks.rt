@@ -7,7 +7,7 @@ use site::How;
 use turn::Status;
 ghost use mathlib.Core.Path.{_≡_};
 ghost use lib.Dec.{eqb};
-ghost use Rattle.shift.specs.Stay.{raisedAt, runsOn, isRunning, isReady, othersOf, exitsOf};
+ghost use Rattle.shift.specs.Stay.{raisedAt, runsOn, isRunning, isLeaves, isRaises, raisedClass, othersOf, exitsOf};
 
 // A run with an object pending: it is looked at as a throw is.
 pub fn raised_at(run: Run) -> At
@@ -53,16 +53,35 @@ pub fn is_running(run: Run) -> bool
     false
 }
 
-// Whether the instruction is one that does not stay in its frame, or raises a new object.
+// Whether the instruction is one that does not stay in its frame.
 pub fn ready(h: At) -> bool
-    ensures value { λ r. ⌜ r ≡ isReady (h .how) ⌝ }
+    ensures value { λ r. ⌜ r ≡ isLeaves (h .how) ⌝ }
 {
     let how = h.how;
-    match how {
-        How::Leaves => true,
-        How::Raises(class) => true,
-        _ => false,
+    if let How::Leaves = how {
+        return true;
     }
+    false
+}
+
+// Whether it raises a new object, and of which class.
+pub fn raises(h: At) -> bool
+    ensures value { λ r. ⌜ r ≡ isRaises (h .how) ⌝ }
+{
+    let how = h.how;
+    if let How::Raises(class) = how {
+        return true;
+    }
+    false
+}
+
+pub fn raised_class(how: How) -> u8
+    ensures value { λ r. ⌜ r ≡ raisedClass how ⌝ }
+{
+    if let How::Raises(class) = how {
+        return class;
+    }
+    0
 }
 
 // A run that comes to no such instruction: to a fault, to an address outside its method, or to its last step.

@@ -2,30 +2,34 @@
 // class of its object, the place of its frame and the address of the frame below.
 use super::At;
 use super::Shift;
+use super::asks;
 use super::counts;
 use super::effects;
 use cells::Value;
 use machine::Effect;
-use site::How;
 use turn::Status;
 ghost use mathlib.Core.Path.{_≡_};
-ghost use Rattle.machine.specs.declared.Effect.the-variants.{Call, Exit};
+ghost use Rattle.machine.specs.declared.Effect.the-variants.{Make, Call, Exit, RaiseNew};
 ghost use Rattle.machine.specs.Decide.{virtualCall, throw};
 ghost use Rattle.program.specs.Tables.{programIn};
 ghost use Rattle.cells.specs.Cells.{valueOf};
 ghost use Rattle.site.specs.Site.{aOf, bOf, cOf};
 ghost use Rattle.shift.specs.Shift.{returnedIn, shifted};
-ghost use Rattle.shift.specs.Stay.{makingBy};
+ghost use Rattle.shift.specs.Stay.{raisedClass};
 
-// An instruction that raises a new object, or new-instance.
+// new-instance.
 pub fn make_shift(t: &[u64; 768], h: At, m: u32, a: u32, below: u32, x: Value, class: u32) -> Shift
-    ensures value { λ r. ⌜ r ≡ shifted (programIn (now (t .entry))) h below (makingBy (h .how) (h .word)) ⌝ }
+    ensures value { λ r. ⌜ r ≡ shifted (programIn (now (t .entry))) h below (Make (aOf (h .word)) (bOf (h .word))) ⌝ }
+{
+    effects::made(h, site::field_a(h.word), site::field_b(h.word))
+}
+
+// An instruction that raises a new object.
+pub fn new_shift(t: &[u64; 768], h: At, m: u32, a: u32, below: u32, x: Value, class: u32) -> Shift
+    ensures value { λ r. ⌜ r ≡ shifted (programIn (now (t .entry))) h below (RaiseNew (raisedClass (h .how))) ⌝ }
 {
     let how = h.how;
-    if let How::Raises(class) = how {
-        return effects::raised_new(h, class);
-    }
-    effects::made(h, site::field_a(h.word), site::field_b(h.word))
+    effects::raised_new(h, asks::raised_class(how))
 }
 
 // invoke-static.

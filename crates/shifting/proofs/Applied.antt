@@ -31,20 +31,21 @@ use Rattle.turn.specs.Stop.{room, stopOf}
 use Rattle.turn.proofs.Stops.{running-stop}
 use Rattle.cells.specs.Cells.{valueOf}
 use Rattle.cells.proofs.Values.{reads}
-use Rattle.site.specs.declared.How.{How}
 use Rattle.site.specs.declared.How.the-variants as how
-use Rattle.site.specs.Site.{opcodeOf, aOf, bOf, cOf, leavesBy}
+use Rattle.site.specs.Site.{opcodeOf, aOf, bOf, cOf, leavesBy, leavesOf}
 use Rattle.shift.specs.declared.At.{At}
 use Rattle.shift.specs.declared.Run.{Run}
 use Rattle.shift.specs.declared.Stop.the-variants as stop
 use Rattle.shift.specs.Places.{lookOf}
 use Rattle.shift.specs.Shift.{shifted, returnedIn}
-use Rattle.shift.specs.Stay.{isReady, makingBy, exitsOf}
+use Rattle.shift.specs.Stay.{raisedClass, exitsOf}
 use Rattle.drive.specs.Models as drive
 use Rattle.drive.specs.Models.{Lent}
-use Rattle.turns.specs.Turns.{Shifting, shiftIn, shiftDone, belowIn, valueIn, classIn, makeShifting, staticShifting, virtualShifting, leaveShifting, throwShifting, makeDone, staticDone, virtualDone, leaveDone, throwDone, fromThrow, fromExit, fromVirtual, applied}
+use Rattle.turns.specs.Turns.{Shifting, shiftIn, shiftDone, belowIn, valueIn, classIn, makeShifting, staticShifting, virtualShifting}
+use Rattle.turns.specs.Turns.{leaveShifting, throwShifting, makeDone, staticDone, virtualDone, leaveDone, throwDone, fromThrow, fromExit}
+use Rattle.turns.specs.Turns.{fromVirtual, applied, newShifting, newDone}
 use Rattle.lies.specs.Lies.{statusOf, Roomy, Lies}
-use Rattle.lies.specs.Staying.{LeftBy}
+use Rattle.lies.specs.Staying.{siteAt}
 use Rattle.lies.proofs.Registers.{registers-few}
 use Rattle.shifting.specs.Shifting.{Come, Shifted, written, Topped, Leaving}
 use Rattle.shifting.proofs.Looked.{below-in, value-in, class-in}
@@ -53,7 +54,7 @@ use Rattle.shifting.proofs.Made.{make-lies, raise-lies, status-lies}
 use Rattle.shifting.proofs.Called.{call-lies}
 use Rattle.shifting.proofs.Left.{last-lies, return-lies}
 use Rattle.shifting.proofs.Effects.{make-chosen, virtual-chosen, static-chosen, return-chosen, void-chosen, throw-chosen}
-use Rattle.shifting.proofs.Effects.{first-virtual, first-other, virtual-leaves, throw-leaves, making-leaves}
+use Rattle.shifting.proofs.Effects.{first-virtual, first-other, virtual-leaves, throw-leaves}
 
 running-status : (x : Status) → statusOf x ≡ running → x ≡ Running
 running-status Running e = refl
@@ -167,8 +168,16 @@ module _ (t : List ℕ) (formed : Formed (programIn t)) (s : State) (before : Le
       (rw (class, value, first-other h (λ q. never (omega (arith, e, q)))) refl)
       (throw-leaves (programIn t) (classIn now h) (valueOf (valueIn now h)))
 
-  make-arm : effectAt (programIn t) s f ≡ makingBy (h .how) (h .word) → Shifted (programIn t) s before now (h .run) (makeDone t now h)
-  make-arm is = arm-by makeShifting (makingBy (h .how) (h .word)) refl is (making-leaves (h .how) (h .word))
+  make-arm : h .opcode ≡ 7 → Shifted (programIn t) s before now (h .run) (makeDone t now h)
+  make-arm e =
+      arm-by makeShifting (effect.Make (aOf (h .word)) (bOf (h .word))) refl (effect-is _ (make-chosen (h .word) (opcode 7 e))) tt
+
+  -- an instruction that raises a new object
+  pub raised-lies : (k : ℕ) → h .how ≡ how.Raises k → effectAt (programIn t) s f ≡ effect.RaiseNew k
+      → Shifted (programIn t) s before now (h .run) (newDone t now h)
+  raised-lies k e is =
+      let class : k ≡ raisedClass (h .how) = sym (ap raisedClass e) in
+      arm-by newShifting (effect.RaiseNew (raisedClass (h .how))) refl (is ∙ ap effect.RaiseNew class) tt
 
   leave-arm : exitsOf h ≡ true → Shifted (programIn t) s before now (h .run) (leaveDone t now h)
   leave-arm e =
@@ -184,18 +193,8 @@ module _ (t : List ℕ) (formed : Formed (programIn t)) (s : State) (before : Le
       let e = neither (eqb (h .opcode) 16) (eqb (h .opcode) 17) c in
       absurd (false≢true (rw (q, a, b, e .0, e .1, d) at leaves)))
 
-  -- what none of the five others is makes an object
-  making : (e : How) → isReady e ≡ true → LeftBy (programIn t) s f rest e → eqb (h .opcode) 13 ≡ false → eqb (h .opcode) 12 ≡ false
-      → exitsOf h ≡ false → eqb (h .opcode) 18 ≡ false → effectAt (programIn t) s f ≡ makingBy e (h .word)
-  making how.Went ready left a b c d = absurd left
-  making how.Leaves ready left a b c d =
-      effect-is _ (make-chosen (h .word) (opcode 7 (last-opcode (ap leavesBy (come .opcode) ∙ left) a b c d)))
-  making (how.Raises k) ready left a b c d = left
-  making (how.Failed e) ready left a b c d = never (cc)
-
-  pub applied-lies : (e : How) → h .how ≡ e → isReady e ≡ true → LeftBy (programIn t) s f rest e
-      → Shifted (programIn t) s before now (h .run) (applied t now h)
-  applied-lies e q ready left =
+  pub applied-lies : leavesOf (siteAt (programIn t) f rest) ≡ true → Shifted (programIn t) s before now (h .run) (applied t now h)
+  applied-lies left =
       let P : drive.Done Run → Type 0 = Shifted (programIn t) s before now (h .run) in
       pick-cases P (eqb (h .opcode) 13) (staticDone t now h) (fromVirtual t now h) (λ q. static-arm (eqb-true (h .opcode) 13 q))
       (λ a.
@@ -204,4 +203,4 @@ module _ (t : List ℕ) (formed : Formed (programIn t)) (s : State) (before : Le
       pick-cases P (exitsOf h) (leaveDone t now h) (fromThrow t now h) leave-arm
       (λ c.
       pick-cases P (eqb (h .opcode) 18) (throwDone t now h) (makeDone t now h) (λ q. throw-arm (eqb-true (h .opcode) 18 q))
-      (λ d. make-arm (making e ready left a b c d ∙ ap (λ (e : How). makingBy e (h .word)) (sym q))))))
+      (λ d. make-arm (last-opcode (ap leavesBy (come .opcode) ∙ left) a b c d)))))

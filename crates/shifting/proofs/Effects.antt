@@ -16,12 +16,9 @@ use Rattle.machine.specs.declared.Value.{Value}
 use Rattle.machine.specs.declared.Value.the-variants.{Number, Reference}
 use Rattle.machine.specs.Decide.{notObject, callOf, virtualCall, throw}
 use Rattle.instruction.proofs.Flags.{pick-cases}
-use Rattle.site.specs.declared.How.{How}
-use Rattle.site.specs.declared.How.the-variants.{Went, Leaves, Raises, Failed}
 use Rattle.site.specs.Site.{opcodeOf, aOf, bOf, cOf}
 use Rattle.shift.specs.declared.At.{At}
 use Rattle.shift.specs.Places.{lookOf}
-use Rattle.shift.specs.Stay.{makingBy}
 use Rattle.shifting.specs.Shifting.{Leaving}
 
 -- ---- the instruction of a word
@@ -79,9 +76,3 @@ virtual-leaves p k n b c (Reference o) = call-leaves (virtualCallee p k n b) c
 pub throw-leaves : (p : Program) (k : ℕ) (v : Value) → Leaving (throw p k v)
 throw-leaves p k (Number z) = not-object z
 throw-leaves p k (Reference o) = either (below p k 1) _ _ tt tt
-
-pub making-leaves : (e : How) (w : ℕ) → Leaving (makingBy e w)
-making-leaves Went w = tt
-making-leaves Leaves w = tt
-making-leaves (Raises k) w = tt
-making-leaves (Failed f) w = tt

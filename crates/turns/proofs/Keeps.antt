@@ -8,12 +8,15 @@ use lib.ListN.{length-set}
 use Rattle.shift.specs.declared.At.{At}
 use Rattle.shift.specs.declared.Pass.{Pass}
 use Rattle.shift.specs.Shift.{passesOf}
-use Rattle.shift.specs.Stay.{isReady, exitsOf}
+use Rattle.shift.specs.Stay.{isLeaves, isRaises, exitsOf}
 use Rattle.drive.specs.Models.{Lent}
 use Rattle.drive.proofs.Driver.{Same}
 use Rattle.drive.proofs.Turns.{same-turns}
 use Rattle.drive.proofs.Keeps.{same-self, pick-keeps, loop-keeps}
-use Rattle.turns.specs.Turns.{passOne, passDone, Shifting, shiftIn, popped, resumed, moved, wrote, shiftedOn, enteredOn, shiftDone, makeShifting, staticShifting, virtualShifting, leaveShifting, throwShifting, makeDone, staticDone, virtualDone, leaveDone, throwDone, fromThrow, fromExit, fromVirtual, applied, restDone, executed}
+use Rattle.turns.specs.Turns.{passOne, passDone, Shifting, shiftIn, popped, resumed, moved, wrote, shiftedOn, enteredOn, shiftDone}
+use Rattle.turns.specs.Turns.{makeShifting, staticShifting, virtualShifting, leaveShifting, throwShifting, makeDone, staticDone}
+use Rattle.turns.specs.Turns.{virtualDone, leaveDone, throwDone, fromThrow, fromExit, fromVirtual, applied, restDone, executed}
+use Rattle.turns.specs.Turns.{newShifting, newDone, fromRaises}
 
 -- ---- arguments
 
@@ -66,5 +69,9 @@ apply-keeps t m h = pick-keeps (eqb (h .opcode) 13) m (staticDone t m h) (fromVi
 pub rest-keeps : (t : List ℕ) (m : Lent) (h : At) → Same m (restDone t m h .memory)
 rest-keeps t m h = same-self m
 
+pub raises-keeps : (t : List ℕ) (m : Lent) (h : At) → Same m (fromRaises t m h .memory)
+raises-keeps t m h =
+    pick-keeps (isRaises (h .how)) m (newDone t m h) (restDone t m h) (shift-keeps newShifting t m h) (rest-keeps t m h)
+
 pub execute-keeps : (t : List ℕ) (m : Lent) (h : At) → Same m (executed t m h .memory)
-execute-keeps t m h = pick-keeps (isReady (h .how)) m (applied t m h) (restDone t m h) (apply-keeps t m h) (rest-keeps t m h)
+execute-keeps t m h = pick-keeps (isLeaves (h .how)) m (applied t m h) (fromRaises t m h) (apply-keeps t m h) (raises-keeps t m h)

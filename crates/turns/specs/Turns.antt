@@ -6,7 +6,7 @@ use lib.Dec.{eqb}
 use lib.ListN.{getD, set}
 use Rattle.instruction.specs.Word.{pick}
 use Rattle.program.specs.Tables.{programIn}
-use Rattle.machine.specs.declared.Effect.the-variants.{Call, Exit}
+use Rattle.machine.specs.declared.Effect.the-variants.{Make, Call, Exit, RaiseNew}
 use Rattle.machine.specs.Decide.{virtualCall, throw}
 use Rattle.cells.specs.declared.Frame.{Frame}
 use Rattle.cells.specs.declared.Value.{Value}
@@ -19,7 +19,7 @@ use Rattle.shift.specs.declared.Run.{Run}
 use Rattle.shift.specs.declared.Shift.{Shift}
 use Rattle.shift.specs.Places.{lookOf, thrownAt}
 use Rattle.shift.specs.Shift.{shifted, unwound, returnedIn, passesOf, passedOf}
-use Rattle.shift.specs.Stay.{isReady, makingBy, exitsOf, othersOf}
+use Rattle.shift.specs.Stay.{isLeaves, isRaises, raisedClass, exitsOf, othersOf}
 use Rattle.drive.specs.Models.{Lent, lent, Done, done, looped}
 
 -- ---- arguments
@@ -95,7 +95,10 @@ shiftDone w t m h =
 
 -- one a kind of step
 abbrev pub makeShifting : Shifting
-makeShifting t h m a b x c = shifted (programIn t) h b (makingBy (h .how) (h .word))
+makeShifting t h m a b x c = shifted (programIn t) h b (Make (aOf (h .word)) (bOf (h .word)))
+
+abbrev pub newShifting : Shifting
+newShifting t h m a b x c = shifted (programIn t) h b (RaiseNew (raisedClass (h .how)))
 
 abbrev pub staticShifting : Shifting
 staticShifting t h m a b x c = shifted (programIn t) h b (Call (aOf (h .word)) (cOf (h .word)))
@@ -115,6 +118,9 @@ unwindShifting t h m a b x c = unwound (programIn t) h m a c
 
 abbrev pub makeDone : List ℕ → Lent → At → Done Run
 makeDone = shiftDone makeShifting
+
+abbrev pub newDone : List ℕ → Lent → At → Done Run
+newDone = shiftDone newShifting
 
 abbrev pub staticDone : List ℕ → Lent → At → Done Run
 staticDone = shiftDone staticShifting
@@ -147,5 +153,8 @@ applied t m h = pick (eqb (h .opcode) 13) (staticDone t m h) (fromVirtual t m h)
 abbrev pub restDone : List ℕ → Lent → At → Done Run
 restDone t m h = done (othersOf h) m
 
+abbrev pub fromRaises : List ℕ → Lent → At → Done Run
+fromRaises t m h = pick (isRaises (h .how)) (newDone t m h) (restDone t m h)
+
 abbrev pub executed : List ℕ → Lent → At → Done Run
-executed t m h = pick (isReady (h .how)) (applied t m h) (restDone t m h)
+executed t m h = pick (isLeaves (h .how)) (applied t m h) (fromRaises t m h)

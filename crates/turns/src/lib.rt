@@ -8,8 +8,8 @@ use shift::Pass;
 use shift::Run;
 ghost use mathlib.Core.Path.{_≡_};
 ghost use Rattle.drive.specs.Models.{done, lent};
-ghost use Rattle.turns.specs.Turns.{passOne, passDone, makeDone, staticDone, virtualDone, leaveDone, throwDone, unwindDone, restDone};
-ghost use Rattle.turns.specs.Turns.{fromThrow, fromExit, fromVirtual, applied, executed};
+ghost use Rattle.turns.specs.Turns.{passOne, passDone, makeDone, newDone, staticDone, virtualDone, leaveDone, throwDone};
+ghost use Rattle.turns.specs.Turns.{unwindDone, restDone, fromRaises, fromThrow, fromExit, fromVirtual, applied, executed};
 
 // One argument is passed.
 fn pass_one(
@@ -50,7 +50,7 @@ fn pass(
     j
 }
 
-// An instruction that raises a new object, or new-instance.
+// new-instance.
 fn make(
     t: &[u64; 768],
     frames: &mut [Frame],
@@ -71,6 +71,38 @@ fn make(
     let i = shift::thrown_at(h, x);
     let c = store::class_at(objects, i, w.class);
     let e = shift::make_shift(t, h, m, a, b, x, c);
+    let z = cells::zero_frame();
+    store::put_frame(frames, e.popped, z);
+    store::put_result(frames, e.resumed, e.value);
+    store::put_address(frames, e.moved, e.next);
+    store::put_class(objects, e.made, e.class);
+    store::put_register(frames, e.wrote, e.to, e.value);
+    let q = pass(t, frames, objects, statics, e.pass);
+    store::put_method(frames, e.entered, e.method);
+    e.run
+}
+
+// An instruction that raises a new object.
+fn raise_new(
+    t: &[u64; 768],
+    frames: &mut [Frame],
+    objects: &mut [Object],
+    statics: &mut [Value],
+    h: At,
+) -> Run
+    ensures after { λ r.
+        let before = lent (now (frames .entry)) (now (objects .entry)) (now (statics .entry)) in
+        let after = lent (now (frames .exit)) (now (objects .exit)) (now (statics .exit)) in
+        ⌜ done r after ≡ newDone (now (t .entry)) before h ⌝ }
+{
+    let w = shift::looked(h);
+    let m = store::method_at(frames, w.top, w.missing);
+    let a = store::address_at(frames, w.top, w.missing);
+    let b = store::address_at(frames, w.below, w.missing);
+    let x = store::register_at(frames, w.top, w.first, w.none);
+    let i = shift::thrown_at(h, x);
+    let c = store::class_at(objects, i, w.class);
+    let e = shift::new_shift(t, h, m, a, b, x, c);
     let z = cells::zero_frame();
     store::put_frame(frames, e.popped, z);
     store::put_result(frames, e.resumed, e.value);
@@ -335,6 +367,25 @@ fn apply(
     }
 }
 
+fn from_raises(
+    t: &[u64; 768],
+    frames: &mut [Frame],
+    objects: &mut [Object],
+    statics: &mut [Value],
+    h: At,
+) -> Run
+    ensures after { λ r.
+        let before = lent (now (frames .entry)) (now (objects .entry)) (now (statics .entry)) in
+        let after = lent (now (frames .exit)) (now (objects .exit)) (now (statics .exit)) in
+        ⌜ done r after ≡ fromRaises (now (t .entry)) before h ⌝ }
+{
+    if shift::raises(h) {
+        raise_new(t, frames, objects, statics, h)
+    } else {
+        rest(t, frames, objects, statics, h)
+    }
+}
+
 // A run that has come to an instruction that does not stay in its frame, to one that raises a new object, or to neither.
 pub fn execute(
     t: &[u64; 768],
@@ -351,6 +402,6 @@ pub fn execute(
     if shift::ready(h) {
         apply(t, frames, objects, statics, h)
     } else {
-        rest(t, frames, objects, statics, h)
+        from_raises(t, frames, objects, statics, h)
     }
 }

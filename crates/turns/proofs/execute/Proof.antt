@@ -7,17 +7,17 @@ use Rattle.shift.proofs.At as At
 use Rattle.shift.proofs.At.Laws as At′
 use Rattle.shift.proofs.Run as Ru
 use Rattle.shift.proofs.Run.Laws as Ru′
-use Rattle.shift.specs.Stay.{isReady}
-use Rattle.turns.specs.Turns.{applied, restDone}
-use Rattle.turns.proofs.Keeps.{apply-keeps, rest-keeps}
+use Rattle.shift.specs.Stay.{isLeaves}
+use Rattle.turns.specs.Turns.{applied, fromRaises}
+use Rattle.turns.proofs.Keeps.{apply-keeps, raises-keeps}
 use Rattle.drive.proofs.Driver.{Drive}
 use Rattle.drive.proofs.Branch as br
 use Rattle.shift.proofs.ready.Symbol as test-def
 use Rattle.shift.proofs.ready.Met as test-thm
 use Rattle.turns.proofs.apply.Symbol as yes-def
 use Rattle.turns.proofs.apply.Met as yes-thm
-use Rattle.turns.proofs.rest.Symbol as no-def
-use Rattle.turns.proofs.rest.Met as no-thm
+use Rattle.turns.proofs.from_raises.Symbol as no-def
+use Rattle.turns.proofs.from_raises.Met as no-thm
 use Rattle.turns.proofs.execute.Key.{name as #f}
 use Rattle.turns.proofs.execute as f
 use Rattle.turns.proofs.execute.Statement as stated
@@ -28,8 +28,8 @@ unfolding code.routine tablesOf
 execute-spec 𝓤 H 𝓜 𝓖 𝓡 =
     entered 𝓤 H (tripleOf 𝓤 H (𝓖 .A) f.signature (f.spec 𝓤 H (𝓖 .A) (𝓜 .mem) (𝓡 .run)))
     (tables 𝓤 H 𝓜 𝓡 code.env .C) (tables 𝓤 H 𝓜 𝓡 code.env .Λ) #f code.function (code.unfolded 𝓤 H 𝓜 𝓡)
-    (br.meets At.the-type At′.the-laws At′.the-plain Ru.the-type Ru′.the-laws Ru′.the-plain (λ h. isReady (h .how)) applied restDone test-def.name yes-def.name no-def.name
-    𝓤 H (𝓖 .A) (givenOf 𝓤 H 𝓜 𝓖) (λ _. tt) (λ _ _. refl) apply-keeps rest-keeps (tablesOf 𝓤 H 𝓜 (tables 𝓤 H 𝓜 𝓡 code.env))
-    (cited 𝓤 H (br.Test At.the-type At′.the-laws At′.the-plain Ru.the-type Ru′.the-laws Ru′.the-plain (λ h. isReady (h .how)) applied restDone 𝓤 H (𝓖 .A)) 𝓜 𝓡 code.env test-def.name test-def.routine code.calls-shift·ready (test-thm.met 𝓤 H 𝓜 𝓖 𝓡))
+    (br.meets At.the-type At′.the-laws At′.the-plain Ru.the-type Ru′.the-laws Ru′.the-plain (λ h. isLeaves (h .how)) applied fromRaises test-def.name yes-def.name no-def.name
+    𝓤 H (𝓖 .A) (givenOf 𝓤 H 𝓜 𝓖) (λ _. tt) (λ _ _. refl) apply-keeps raises-keeps (tablesOf 𝓤 H 𝓜 (tables 𝓤 H 𝓜 𝓡 code.env))
+    (cited 𝓤 H (br.Test At.the-type At′.the-laws At′.the-plain Ru.the-type Ru′.the-laws Ru′.the-plain (λ h. isLeaves (h .how)) applied fromRaises 𝓤 H (𝓖 .A)) 𝓜 𝓡 code.env test-def.name test-def.routine code.calls-shift·ready (test-thm.met 𝓤 H 𝓜 𝓖 𝓡))
     (cited 𝓤 H (Drive At.the-type At′.the-laws At′.the-plain Ru.the-type Ru′.the-laws Ru′.the-plain applied 𝓤 H (𝓖 .A)) 𝓜 𝓡 code.env yes-def.name yes-def.routine code.calls-turns·apply (yes-thm.met 𝓤 H 𝓜 𝓖 𝓡))
-    (cited 𝓤 H (Drive At.the-type At′.the-laws At′.the-plain Ru.the-type Ru′.the-laws Ru′.the-plain restDone 𝓤 H (𝓖 .A)) 𝓜 𝓡 code.env no-def.name no-def.routine code.calls-turns·rest (no-thm.met 𝓤 H 𝓜 𝓖 𝓡)))
+    (cited 𝓤 H (Drive At.the-type At′.the-laws At′.the-plain Ru.the-type Ru′.the-laws Ru′.the-plain fromRaises 𝓤 H (𝓖 .A)) 𝓜 𝓡 code.env no-def.name no-def.routine code.calls-turns·from-raises (no-thm.met 𝓤 H 𝓜 𝓖 𝓡)))
