@@ -1,5 +1,6 @@
 // The 21 instructions: an enum, the numbers of its conditions and operations, and what a signed field says.
 ghost use mathlib.Core.Path.{_≡_};
+ghost use Prim.Native.Nat.{_%_};
 ghost use mir.Syntax.{w32};
 ghost use mir.Val.{toZ, ofZ};
 ghost use Rattle.instruction.specs.Word.{signedOf, conditionOf, conditionNumber, operationOf, operationNumber, unaryOf, unaryNumber};
@@ -170,6 +171,21 @@ pub fn condition_of(n: u8) -> Condition
         3 => Condition::Ge,
         4 => Condition::Gt,
         _ => Condition::Le,
+    }
+}
+
+// The condition of a test against zero, which stands as 6 to 11; any other number counts by its remainder.
+pub fn zero_condition_of(n: u8) -> Condition
+    ensures value { λ r. ⌜ r ≡ conditionOf (n % 6) ⌝ }
+{
+    match n {
+        6 => Condition::Eq,
+        7 => Condition::Ne,
+        8 => Condition::Lt,
+        9 => Condition::Ge,
+        10 => Condition::Gt,
+        11 => Condition::Le,
+        _ => condition_of(n % 6),
     }
 }
 

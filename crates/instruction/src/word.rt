@@ -8,6 +8,7 @@ use super::operation_of;
 use super::signed;
 use super::unary_number;
 use super::unary_of;
+use super::zero_condition_of;
 ghost use mathlib.Core.Path.{_≡_};
 ghost use Rattle.instruction.specs.Word.{fieldsOf, instructionOf, packed, wordOf};
 
@@ -32,7 +33,7 @@ fn fields(o: u8, a: u8, b: u8, c: u8, d: u32, value: i32) -> Instruction
                 }
             } else {
                 Instruction::IfZero {
-                    condition: condition_of(c % 6),
+                    condition: zero_condition_of(c),
                     register: a,
                     target: d,
                 }

@@ -7,7 +7,7 @@ use Prim.Native.Nat.{ℕ, suc, _%_, _≤_, _<_}
 use native.Mathlib.Omega.{arith}
 use lib.Dec.{T as Holds, ltb}
 use lib.ListN.{length}
-use borrow.Author.Tests.{le-ltb, eq-eqb, ne-eqb}
+use borrow.Author.Tests.{le-ltb}
 use Rattle.text.proofs.Cases.{never}
 use Rattle.program.specs.Program.{Program, codeLength}
 use Rattle.program.specs.Tables.{programIn}
@@ -18,12 +18,12 @@ use Rattle.turn.specs.declared.Halt.the-variants.{Outside}
 use Rattle.turn.specs.Stop.{stopOf}
 use Rattle.shift.specs.declared.Run.{Run}
 use Rattle.shift.specs.declared.Stay.{Stay}
-use Rattle.shift.specs.Stay.{beginAt, stayOf, raisedAt}
+use Rattle.shift.specs.Stay.{stayOf, raisedAt}
 use Rattle.shift.specs.Places.{topOf}
 use Rattle.drive.specs.Models.{Lent}
 use Rattle.drive.proofs.Turns.{turn-over}
 use Rattle.lies.specs.Lies.{statusOf, Roomy}
-use Rattle.shifting.proofs.Looked.{top-of, method-in, address-in}
+use Rattle.shifting.proofs.Looked.{top-of, method-in, address-in, address-none}
 use Rattle.rounds.specs.Rounds.{oneDone, goes, methodIn, addressIn, stayIn}
 use Rattle.ran.specs.Ran.{Going}
 use Rattle.ran.specs.Rounding.{Standing, Paused}
@@ -57,9 +57,6 @@ empty-stops p s e q = rw (e, q)
 pub small : (p : Program) → Formed p → (m a : ℕ) → a < codeLength p m → a % 256 ≡ a
 small p formed m a l = omega (arith, formed .limited .code m)
 
-begin-is : (d r a : ℕ) → d ≡ suc r → beginAt d a ≡ a
-begin-is d r a e = rw (ne-eqb d 0 (λ q. omega arith))
-
 -- ---- the top frame, as it is read in the lent slices
 
 module _ (p : Program) (n : ℕ) (s : State) (before : Lent) (k : Run) (now : Lent) (g : Going p n (k .left) s before (k .tally) now) where
@@ -79,20 +76,17 @@ module _ (p : Program) (n : ℕ) (s : State) (before : Lent) (k : Run) (now : Le
           frames = frames;
           top = top;
           method = method-in (g .state) before now roomy (raisedAt k) (g .lies) f rest frames;
-          pc =
-              begin-is (k .tally .depth) (length rest) (addressIn now k) deep
-              ∙ address-in (g .state) before now roomy (raisedAt k) (g .lies) f rest frames;
+          pc = address-in (g .state) before now roomy (raisedAt k) (g .lies) f rest frames;
           how = refl;
         }
 
 -- no frame is open
-module _ (t : List ℕ) (formed : Formed (programIn t)) (n : ℕ) (s : State) (before : Lent) (k : Run) (now : Lent)
+module _ (t : List ℕ) (formed : Formed (programIn t)) (n : ℕ) (s : State) (before : Lent) (roomy : Roomy before) (k : Run) (now : Lent)
     (run : k .tally .status ≡ Running) (g : Going (programIn t) n (k .left) s before (k .tally) now) where
   pub nowhere : g .state .frames ≡ [] → Paused (programIn t) n s before (k .tally) (stayIn t now k)
   nowhere empty =
       let first : Stay = stayOf k (methodIn now k) (addressIn now k) in
-      let depth : k .tally .depth ≡ 0 = g .lies .depth ∙ ap length empty in
-      let pc : first .pc ≡ 4294967295 = rw (eq-eqb (k .tally .depth) 0 depth) refl in
+      let pc : first .pc ≡ 4294967295 = address-none (g .state) before now roomy (raisedAt k) (g .lies) empty in
       let out : ltb (first .pc) (codeLength (programIn t) (first .method)) ≡ false =
       le-ltb (first .pc) (codeLength (programIn t) (first .method)) (omega (arith, pc, formed .limited .code (first .method))) in
       subst (Paused (programIn t) n s before (k .tally)) (turn-over goes oneDone t (k .left) now first (no-further (ltb 0 (k .left)) _ out))

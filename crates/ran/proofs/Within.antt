@@ -154,7 +154,7 @@ module _ (t : List ℕ) (formed : Formed (programIn t)) (n : ℕ) (s : State) (b
   -- ---- the loop, of a run
   module _ (k : Run) (now : Lent) (run : k .tally .status ≡ Running) (g : Going (programIn t) n (k .left) s before (k .tally) now) where
     by-frames : (fs : List Frame) → g .state .frames ≡ fs → Paused (programIn t) n s before (k .tally) (stayIn t now k)
-    by-frames [] e = nowhere t formed n s before k now run g e
+    by-frames [] e = nowhere t formed n s before roomy k now run g e
     by-frames (f ∷ rest) e =
         loop (k .tally) run (k .left) (stayOf k (methodIn now k) (addressIn now k)) now (omega arith)
         (standing (programIn t) n s before k now g roomy f rest e)

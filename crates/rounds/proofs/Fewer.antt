@@ -4,10 +4,10 @@ use mathlib.Core.Bool.{Bool, true, false, _&&_}
 use mathlib.Core.List.{List}
 use Prim.Native.Nat.{ℕ, suc, _+_, _≤_, _<_}
 use native.Mathlib.Omega.{arith}
-use lib.Dec.{T as Holds, eqb, ltb, ltb→lt, lt→ltb}
+use lib.Dec.{T as Holds, eqb, ltb, leb, ltb→lt, lt→ltb}
 use Rattle.instruction.specs.Word.{pick}
 use Rattle.arithmetic.specs.Arithmetic.{isZero}
-use Rattle.program.specs.Program.{Program, nullClass}
+use Rattle.program.specs.Program.{Program, codeLength, nullClass}
 use Rattle.program.specs.Tables.{programIn}
 use Rattle.search.specs.declared.Callee.{Callee}
 use Rattle.search.specs.declared.Callee.the-variants.{Found, Missing}
@@ -36,7 +36,7 @@ use Rattle.shift.specs.declared.Shift.{Shift}
 use Rattle.shift.specs.declared.Stop.the-variants as stop
 use Rattle.shift.specs.Places.{topOf}
 use Rattle.shift.specs.Shift.{tallied, counted, stopped, withStatus, leaving, only, grownBy, shifted, pendingOf, unwoundBy, handled}
-use Rattle.shift.specs.Shift.{outsideOf, unwound}
+use Rattle.shift.specs.Shift.{unwound}
 use Rattle.shift.specs.Stay.{isLeaves, isRaises, raisedClass, isOpen, isNo, runsOn, exitsOf, othersBy, othersOf}
 use Rattle.drive.specs.Models.{Lent, Done, done}
 use Rattle.turns.specs.Turns as turns
@@ -110,7 +110,7 @@ module _ (p : Program) (h : At) (b n : ℕ) (l : h .run .left ≤ n) where
 
   unwound-few : (m a c : ℕ) → turnsOf (unwound p h m a c .run) ≤ n
   unwound-few m a c =
-      pick-cases (λ (e : Shift). turnsOf (e .run) ≤ n) (outsideOf p (h .run .tally .depth) m a) (only (stopped (h .run) stop.Outside)) (handled p h m a c)
+      pick-cases (λ (e : Shift). turnsOf (e .run) ≤ n) (leb (codeLength p m) a) (only (stopped (h .run) stop.Outside)) (handled p h m a c)
       (λ _. omega arith) (λ _. handled-few (pendingOf (h .run .tally .status)) m (handlerFor p m a c))
 
   others-few : turnsOf (pick (ltb 0 (h .run .left)) (stopped (h .run) stop.Outside) (h .run)) ≤ n

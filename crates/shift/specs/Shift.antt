@@ -1,6 +1,6 @@
 -- What a step comes to in lent slices that does not stay in its frame. Nothing here needs to be believed to read a promise of
 -- the stepper. Definitions only.
-use mathlib.Core.Bool.{Bool, _||_}
+use mathlib.Core.Bool.{Bool}
 use Prim.Native.Nat.{ℕ, _+_, _-_, _%_}
 use lib.Dec.{eqb, ltb, leb}
 use Rattle.instruction.specs.Word.{pick}
@@ -228,13 +228,10 @@ unwoundBy p h o m handling.Uncaught =
 abbrev pub handled : Program → At → ℕ → ℕ → ℕ → Shift
 handled p h m a c = unwoundBy p h (pendingOf (h .run .tally .status)) m (handlerFor p m a c)
 
--- unless there is no top frame, or it is at an address outside its method
-abbrev pub outsideOf : Program → ℕ → ℕ → ℕ → Bool
-outsideOf p depth m a = eqb depth 0 || leb (codeLength p m) a
-
+-- unless it is at an address outside its method; where there is none, what is read is an address of no method
 abbrev pub unwound : Program → At → ℕ → ℕ → ℕ → Shift
 unwound p h m a c =
-    pick (outsideOf p (h .run .tally .depth) m a) (only (stopped (h .run) stop.Outside)) (handled p h m a c)
+    pick (leb (codeLength p m) a) (only (stopped (h .run) stop.Outside)) (handled p h m a c)
 
 -- ---- arguments
 

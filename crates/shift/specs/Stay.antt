@@ -49,17 +49,14 @@ raisedClass (how.Failed e) = 0
 
 -- ---- a run that stays in its frame
 
--- it begins where the top frame is; where there is none, at an address of no method
-abbrev pub beginAt : ℕ → ℕ → ℕ
-beginAt depth a = pick (eqb depth 0) 4294967295 a
-
+-- it begins where the top frame is; where there is none, what is read is an address of no method
 abbrev pub stayOf : Run → ℕ → ℕ → Stay
 stayOf k m a =
     record {
       left = k .left;
       top = topOf (k .tally .depth);
       method = m;
-      pc = beginAt (k .tally .depth) a;
+      pc = a;
       how = how.Went;
     }
 

@@ -9,7 +9,7 @@ use site::How;
 use site::Site;
 ghost use mathlib.Core.Path.{_≡_};
 ghost use Rattle.program.specs.Tables.{programIn};
-ghost use Rattle.shift.specs.Stay.{siteOf, goesOn, wentTo, beginAt, stayOf, againLeft, atOf};
+ghost use Rattle.shift.specs.Stay.{siteOf, goesOn, wentTo, stayOf, againLeft, atOf};
 
 // Where the run stands.
 pub fn site_of(t: &[u64; 768], k: Stay) -> Site
@@ -52,16 +52,6 @@ pub fn went(k: Stay, g: Gone) -> Stay
     }
 }
 
-// Where the top of so many frames begins, whose address is a; where there is none, at an address of no method.
-fn begin_at(depth: u8, a: u32) -> u32
-    ensures value { λ r. ⌜ r ≡ beginAt depth a ⌝ }
-{
-    if depth == 0 {
-        return 4294967295;
-    }
-    a
-}
-
 // A run whose top frame is at address a of method m.
 pub fn stay_of(run: Run, m: u32, a: u32) -> Stay
     ensures value { λ r. ⌜ r ≡ stayOf run m a ⌝ }
@@ -70,7 +60,7 @@ pub fn stay_of(run: Run, m: u32, a: u32) -> Stay
         left: run.left,
         top: top_of(run.tally.depth),
         method: m,
-        pc: begin_at(run.tally.depth, a) as usize,
+        pc: a as usize,
         how: How::Went,
     }
 }

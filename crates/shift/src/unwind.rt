@@ -13,7 +13,7 @@ ghost use Prim.Native.Nat.{ℕ};
 ghost use Rattle.program.specs.Program.{Program};
 ghost use Rattle.program.specs.Tables.{programIn};
 ghost use Rattle.search.specs.declared.Handling.the-variants as handling;
-ghost use Rattle.shift.specs.Shift.{pendingOf, unwoundBy, outsideOf, handled, unwound};
+ghost use Rattle.shift.specs.Shift.{pendingOf, unwoundBy, handled, unwound};
 
 // The pending object; callers pass a status that has one.
 fn pending(status: Status) -> u32
@@ -71,16 +71,6 @@ fn dropped(h: At, o: u32) -> Shift
     }
 }
 
-// Whether so many frames have no top one, or it is at an address outside its method.
-fn outside(t: &[u64; 768], depth: u8, m: u32, a: u32) -> bool
-    ensures value { λ r. ⌜ r ≡ outsideOf (programIn (now (t .entry))) depth m a ⌝ }
-{
-    if depth == 0 {
-        return true;
-    }
-    program::code_length(t, m as usize) <= a as usize
-}
-
 // The top frame, at address a of method m, has a handler of a class or is dropped.
 fn handled(t: &[u64; 768], h: At, m: u32, a: u32, class: u32) -> Shift
     ensures value { λ r. ⌜ r ≡ handled (programIn (now (t .entry))) h m a class ⌝ }
@@ -109,7 +99,7 @@ pub fn unwind_shift(
     ensures value { λ r. ⌜ r ≡ unwound (programIn (now (t .entry))) h m a class ⌝ }
 {
     let run = h.run;
-    if outside(t, run.tally.depth, m, a) {
+    if program::code_length(t, m as usize) <= a as usize {
         return effects::only(counts::stopped(run, Stop::Outside));
     }
     handled(t, h, m, a, class)

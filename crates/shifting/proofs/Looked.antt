@@ -4,14 +4,16 @@ use mathlib.Core.List.{List, [], _∷_, map}
 use Prim.Native.Nat.{ℕ, zero, suc, _≤_, _<_}
 use native.Mathlib.Nat.{not-suc-le-zero, le-of-suc-le-suc}
 use native.Mathlib.Omega.{arith}
-use lib.ListN.{length, getD}
+use lib.ListN.{length, length-map, getD}
 use borrow.Author.Tests.{lt-ltb, le-ltb}
 use Rattle.machine.specs.declared.Value as machine
 use Rattle.machine.specs.State as state
 use Rattle.machine.specs.State.{Frame, State, register, objectAt}
 use Rattle.machine.specs.Shaped.{Known}
+use Rattle.cells.specs.declared.Frame as cells
 use Rattle.cells.specs.Cells.{cellOf, framesOf}
 use Rattle.store.specs.Store.{absentFrame, methodOf, addressOf}
+use Rattle.laid.proofs.Lists.{read-nowhere}
 use Rattle.laid.proofs.Parts.{register-any}
 use Rattle.laid.proofs.Frames.{frames-length, top-read, below-read}
 use Rattle.turn.specs.declared.Status.the-variants.{Running, Raised}
@@ -27,6 +29,9 @@ use Rattle.lies.proofs.Values.{object-class, value-class}
 
 pub top-of : (depth n : ℕ) → depth ≡ suc n → topOf depth ≡ n
 top-of depth n e = rw (lt-ltb 0 depth (omega (arith, e))) (omega (arith, e))
+
+top-none : (depth : ℕ) → depth ≡ 0 → topOf depth ≡ nowhere
+top-none depth e = rw (le-ltb 0 depth (omega (arith, e))) refl
 
 pub below-of : (depth n : ℕ) → depth ≡ suc (suc n) → belowOf depth ≡ n
 below-of depth n e = rw (lt-ltb 1 depth (omega (arith, e))) (omega (arith, e))
@@ -77,6 +82,15 @@ module _ (s : State) (before now : Lent) (roomy : Roomy before) (h : At) (lies :
     value-in few =
         rw (lies .frames, top-of (h .run .tally .depth) (length rest) (deep (f ∷ rest) e), top-read s (before .frames) absentFrame f rest e (shallow (f ∷ rest) e) (roomy .frames))
         (register-any f (lookOf h .first) few)
+
+  -- no frame is open: what is read is an address of no method
+  pub address-none : s .frames ≡ [] → addressIn now h ≡ 4294967295
+  unfolding lookOf
+  address-none e =
+      let fs : List cells.Frame = framesOf s (before .frames) in
+      rw (lies .frames, top-none (h .run .tally .depth) (deep [] e))
+      (read-nowhere (map addressOf fs) 4294967295
+      (omega (arith, length-map fs addressOf, frames-length s (before .frames), roomy .frames-end)))
 
   pub below-in : (f g : Frame) (rest : List Frame) → s .frames ≡ f ∷ g ∷ rest → belowIn now h ≡ g .address
   unfolding lookOf

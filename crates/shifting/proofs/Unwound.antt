@@ -1,16 +1,14 @@
 -- A step with an object pending: the next state lies in the slices, or the top frame is at no address of its method and nothing is
 -- written. Assumes nothing.
 use mathlib.Core.Path.{_≡_, refl, sym, ap, subst, _∙_}
-use mathlib.Core.Bool.{true}
 use mathlib.Core.List.{List, [], _∷_}
 use mathlib.Core.Option.{none, some}
-use Prim.Native.Nat.{ℕ, suc, _<_}
+use Prim.Native.Nat.{ℕ, _≤_, _<_}
 use native.Mathlib.Omega.{arith}
-use lib.Dec.{eqb, ltb, leb}
+use lib.Dec.{ltb}
 use lib.ListN.{length}
-use borrow.Author.Tests.{ltb-true, ltb-false, lt-leb, le-leb, ne-eqb, eq-eqb}
+use borrow.Author.Tests.{ltb-true, ltb-false, lt-leb, le-leb}
 use Rattle.text.proofs.Cases.{by-test, never}
-use Rattle.instruction.proofs.Flags.{or-right}
 use Rattle.program.specs.Program.{Program, codeLength}
 use Rattle.program.specs.Tables.{programIn}
 use Rattle.reader.specs.Formed.{Formed}
@@ -29,14 +27,14 @@ use Rattle.turn.specs.Stop.{stopOf}
 use Rattle.turn.proofs.Stops.{raised-stop}
 use Rattle.shift.specs.declared.Run.{Run}
 use Rattle.shift.specs.declared.Stop.the-variants as stop
-use Rattle.shift.specs.Shift.{unwoundBy, pendingOf, outsideOf, unwound}
+use Rattle.shift.specs.Shift.{unwoundBy, pendingOf, unwound}
 use Rattle.shift.specs.Stay.{raisedAt}
 use Rattle.drive.specs.Models as drive
 use Rattle.drive.specs.Models.{Lent}
 use Rattle.turns.specs.Turns.{methodIn, addressIn, classIn, unwindShifting, unwindDone}
 use Rattle.lies.specs.Lies.{statusOf, Roomy, Lies}
 use Rattle.shifting.specs.Shifting.{Shifted, written, Topped}
-use Rattle.shifting.proofs.Looked.{method-in, address-in, class-raised}
+use Rattle.shifting.proofs.Looked.{method-in, address-in, address-none, class-raised}
 use Rattle.shifting.proofs.Written.{done-written}
 use Rattle.shifting.proofs.Ways.{stops}
 use Rattle.shifting.proofs.Left.{caught-lies, drop-lies}
@@ -58,9 +56,9 @@ module _ (t : List ℕ) (formed : Formed (programIn t)) (s : State) (before : Le
   known = subst (KnownStatus (length (s .objects))) status (shaped .status)
 
   -- the address is outside
-  outside-lies : (m a c : ℕ) → outsideOf (programIn t) (k .tally .depth) m a ≡ true → stopOf (programIn t) s ≡ some halt.Outside
+  outside-lies : (m a c : ℕ) → codeLength (programIn t) m ≤ a → stopOf (programIn t) s ≡ some halt.Outside
       → Shifted (programIn t) s before now k (written t now (unwound (programIn t) (raisedAt k) m a c))
-  outside-lies m a c out is = rw out (stops t (programIn t) s before now k stop.Outside roomy lies (is, refl))
+  outside-lies m a c out is = rw (le-leb (codeLength (programIn t) m) a out) (stops t (programIn t) s before now k stop.Outside roomy lies (is, refl))
 
   -- inside, by what handles the object
   handled-lies : (f : Frame) (rest : List Frame) → Topped s before now k f rest → (g : Handling) → step (programIn t) s ≡ run.unwound (programIn t) s f rest o g
@@ -73,8 +71,7 @@ module _ (t : List ℕ) (formed : Formed (programIn t)) (s : State) (before : Le
       → Shifted (programIn t) s before now k (written t now (unwound (programIn t) (raisedAt k) (f .method) (f .address) (objectAt s o .class)))
   inside-lies f rest at =
       let p : Program = programIn t in
-      let depth : k .tally .depth ≡ suc (length rest) = lies .depth ∙ ap length (at .frames) in
-      rw (ne-eqb (k .tally .depth) 0 (λ e. never (omega (arith, depth, e))), lt-leb (codeLength p (f .method)) (f .address) (at .inside))
+      rw (lt-leb (codeLength p (f .method)) (f .address) (at .inside))
       (subst (λ (q : ℕ). Shifted p s before now k (written t now (unwoundBy p (raisedAt k) q (f .method) (handlingAt p s f o)))) (sym (ap pendingOf pending))
       (handled-lies f rest
       (record {
@@ -93,8 +90,9 @@ module _ (t : List ℕ) (formed : Formed (programIn t)) (s : State) (before : Le
       → Shifted (programIn t) s before now k (written t now (unwound (programIn t) (raisedAt k) (methodIn now (raisedAt k)) (addressIn now (raisedAt k)) (classIn now (raisedAt k))))
   unfolding stopOf
   framed-lies [] e =
-      outside-lies (methodIn now (raisedAt k)) (addressIn now (raisedAt k)) (classIn now (raisedAt k))
-      (rw (eq-eqb (k .tally .depth) 0 (lies .depth ∙ ap length e)) refl)
+      let m : ℕ = methodIn now (raisedAt k) in
+      outside-lies m (addressIn now (raisedAt k)) (classIn now (raisedAt k))
+      (omega (arith, address-none s before now roomy (raisedAt k) lies e, formed .limited .code m))
       (rw (status, e) refl)
   framed-lies (f ∷ rest) e =
       let p : Program = programIn t in
@@ -106,9 +104,7 @@ module _ (t : List ℕ) (formed : Formed (programIn t)) (s : State) (before : Le
       (by-test (ltb (f .address) (codeLength p (f .method)))
       (λ q. inside-lies f rest (record { status = status; frames = e; inside = ltb-true (f .address) (codeLength p (f .method)) q }))
       (λ q.
-      outside-lies (f .method) (f .address) (objectAt s o .class)
-      (or-right (eqb (k .tally .depth) 0) (leb (codeLength p (f .method)) (f .address))
-      (le-leb (codeLength p (f .method)) (f .address) (ltb-false (f .address) (codeLength p (f .method)) q)))
+      outside-lies (f .method) (f .address) (objectAt s o .class) (ltb-false (f .address) (codeLength p (f .method)) q)
       (rw (status, e, q) refl)))
 
   pub unwound-lies : Shifted (programIn t) s before now k (unwindDone t now (raisedAt k))

@@ -159,7 +159,7 @@ pub fn branch(w: u64, x: Value, y: Value) -> Effect
         return decide::numbers::branch(instruction::condition_of(c), left, cells::value_of(y), d);
     }
     decide::numbers::branch(
-        instruction::condition_of(c % 6),
+        instruction::zero_condition_of(c),
         left,
         machine::Value::Number(0),
         d,

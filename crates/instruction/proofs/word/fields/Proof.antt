@@ -15,8 +15,8 @@ opcodes = 20 ∷ 19 ∷ 18 ∷ 17 ∷ 16 ∷ 15 ∷ 14 ∷ 13 ∷ 12 ∷ 11 ∷ 
 condition-of-requires : tie.Need-condition-of-requires
 condition-of-requires c κs = tt
 
-condition-of-requires-2 : tie.Need-condition-of-requires-2
-condition-of-requires-2 c κs = tt
+zero-condition-of-requires : tie.Need-zero-condition-of-requires
+zero-condition-of-requires c κs = tt
 
 operation-of-requires : tie.Need-operation-of-requires
 operation-of-requires c κs = tt
@@ -42,7 +42,7 @@ returns-4 c = rw (c .before .before .match .keys4, lt-ltb _ _ (c .before .if1 .t
 
 returns-5 : tie.Need-returns-5
 unfolding fieldsOf
-returns-5 c = rw (c .before .before .match .keys4, le-ltb _ _ (c .before .if1 .left), c .condition-of2 .ensures)
+returns-5 c = rw (c .before .before .match .keys4, le-ltb _ _ (c .before .if1 .left), c .zero-condition-of .ensures)
 
 returns-6 : tie.Need-returns-6
 unfolding fieldsOf
@@ -140,7 +140,7 @@ fields-spec =
     tie.close
     (tie.spec
     condition-of-requires
-    condition-of-requires-2
+    zero-condition-of-requires
     operation-of-requires
     unary-of-requires
     returns

@@ -37,8 +37,8 @@ returns c =
       lt-ltb _ 6 (c .before .before .before .if1 .taken),
     )
 
-condition-of-requires-2 : tie.Need-condition-of-requires-2
-condition-of-requires-2 c κs = tt
+zero-condition-of-requires : tie.Need-zero-condition-of-requires
+zero-condition-of-requires c κs = tt
 
 branch-requires-2 : tie.Need-branch-requires-2
 branch-requires-2 c κs = tt
@@ -49,7 +49,7 @@ returns-2 c =
     λ p z k.
     rw (
       c .branch2 .ensures,
-      c .before .condition-of2 .ensures,
+      c .before .zero-condition-of .ensures,
       c .before .before .before .value-of .ensures,
       c .before .before .before .before .field-d .ensures,
       sym (c .before .before .before .before .before .field-c .ensures),
@@ -67,6 +67,6 @@ branch-spec =
     value-of-requires-2
     branch-requires
     returns
-    condition-of-requires-2
+    zero-condition-of-requires
     branch-requires-2
     returns-2)
