@@ -58,8 +58,8 @@ module _ (t : List ℕ) (formed : Formed (programIn t)) (before : Lent) (roomy :
         let come : Come (programIn t) (w .frame) h =
         record {
           pc = rw (w .pc) (small (programIn t) formed (w .frame .method) (w .frame .address) (w .at .inside));
-          word = rw (w .method, w .pc) refl;
-          opcode = rw (w .method, w .pc) refl;
+          word = rw (stays, w .method, w .pc) refl;
+          opcode = rw (stays, w .method, w .pc) refl;
         } in
         shifted-on (programIn t) formed n s before (h .run) now
         (as-many (programIn t) n (suc left) s before (k .tally) now (w .going) (h .run .left) again) (omega (arith, again))

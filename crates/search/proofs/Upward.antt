@@ -5,7 +5,7 @@ use mathlib.Core.Bool.{Bool, true, false, _&&_, _||_}
 use Prim.Native.Nat.{ℕ, zero, suc, _≤_, _<_, zero-le}
 use native.Mathlib.Omega.{arith}
 use lib.Dec.{eqb, ltb}
-use borrow.Author.Tests.{ltb-true, lt-ltb, le-ltb, eq-eqb, ne-eqb}
+use borrow.Author.Tests.{ltb-true, lt-ltb, le-ltb, eqb-true, eqb-false, eq-eqb, ne-eqb}
 use Rattle.instruction.specs.Word.{pick}
 use Rattle.search.specs.declared.Callee.{Callee}
 use Rattle.search.specs.declared.Callee.the-variants.{Found, Missing}
@@ -60,7 +60,23 @@ or-own : (r other : Callee) → (calleeNumber r ≡ 0 → ⊥) → orUpward r ot
 or-own (Found m) other has = refl
 or-own Missing other has = absurd (has refl)
 
+and-unless : (b c : Bool) → (b ≡ true → c ≡ false) → b && c ≡ false
+and-unless true c h = h refl
+and-unless false c h = refl
+
 module _ (p : Program) where
+  -- no class is below one of a greater number
+  less-in : (n c top : ℕ) → c < top → belowIn n p c top ≡ false
+  unfolding belowIn
+  less-in zero c top l = ne-eqb c top (omega arith)
+  less-in (suc n) c top l =
+      rw (ne-eqb c top (omega arith))
+      (and-unless (ltb (superclass p c) c) (belowIn n p (superclass p c) top)
+      (λ t. less-in n (superclass p c) top (omega (arith, ltb-true (superclass p c) c t))))
+
+  pub below-less : (c top : ℕ) → c < top → below p c top ≡ false
+  below-less c top l = less-in c c top l
+
   module _ (c top : ℕ) where
     pub below-step : below p c top ≡ eqb c top || pick (ltb (superclass p c) c) (below p (superclass p c) top) false
     unfolding belowIn
@@ -72,6 +88,14 @@ module _ (p : Program) where
     -- a class is below itself
     pub below-self : c ≡ top → below p c top ≡ true
     below-self same = rw (below-step, eq-eqb c top same)
+
+    -- so that of a number that is not greater only it is
+    none-lower : (b : Bool) → eqb c top ≡ b → c ≤ top → b ≡ below p c top
+    none-lower true e l = sym (below-self (eqb-true c top e))
+    none-lower false e l = sym (below-less c top (omega (arith, l, eqb-false c top e)))
+
+    pub below-lower : c ≤ top → eqb c top ≡ below p c top
+    below-lower l = none-lower (eqb c top) refl l
 
     -- another, of superclass s
     module _ (other : c ≡ top → ⊥) (s : ℕ) (e : s ≡ superclass p c) where

@@ -22,8 +22,8 @@ pub enum Handling {
 pub fn below(t: &[u64; 768], c: usize, top: usize) -> bool
     ensures value { λ r. ⌜ r ≡ below (programIn (now (t .entry))) c top ⌝ }
 {
-    if c == top {
-        return true;
+    if c <= top {
+        return c == top; // the way upward goes by falling numbers
     }
     let s = program::superclass(t, c);
     if s < c {

@@ -17,7 +17,7 @@ use Rattle.search.specs.Search.{below, hasField}
 use Rattle.search.proofs.Searches.{has-field-in, has-field-out}
 use Rattle.sets.specs.Sets.{setsOf}
 use Rattle.sets.specs.Inside.{belowSet}
-use Rattle.sets.proofs.Upward.{below-less}
+use Rattle.search.proofs.Upward.{below-less}
 use Rattle.sets.proofs.Words.{below-has}
 
 module _ (p : Program) (few : classCount p ≤ 60) (k x : ℕ) where

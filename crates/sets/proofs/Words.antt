@@ -25,7 +25,7 @@ use Rattle.flow.proofs.Callees.{found-is}
 use Rattle.slots.specs.Layout.{maskOf, maskAt}
 use Rattle.sets.specs.Sets.{leads, isIn, setWord, setsOf}
 use Rattle.sets.specs.Inside.{named, belowSet, classSet, leadingSet}
-use Rattle.sets.proofs.Upward.{below-less}
+use Rattle.search.proofs.Upward.{below-less}
 
 module _ (p : Program) where
   -- ---- the sets by their test

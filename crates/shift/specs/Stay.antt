@@ -83,14 +83,18 @@ wentTo k g =
 abbrev pub againLeft : ℕ → How → ℕ
 againLeft n e = pick (isWent e) n (pick (ltb n 18446744073709551615) (n + 1) 0)
 
+-- its word; 0 where the last instruction went to another address
+abbrev pub leftWord : Program → How → ℕ → ℕ → ℕ
+leftWord p e m pc = pick (isWent e) 0 (wordAt p m pc)
+
 -- where it has come to
 abbrev pub atOf : Program → Run → Stay → At
 atOf p k j =
     record {
       run = record { left = againLeft (j .left) (j .how); tally = k .tally; stop = k .stop };
       pc = j .pc % 256;
-      opcode = opcodeOf (wordAt p (j .method) (j .pc));
-      word = wordAt p (j .method) (j .pc);
+      opcode = opcodeOf (leftWord p (j .how) (j .method) (j .pc));
+      word = leftWord p (j .how) (j .method) (j .pc);
       how = j .how;
     }
 

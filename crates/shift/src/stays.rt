@@ -9,7 +9,7 @@ use site::How;
 use site::Site;
 ghost use mathlib.Core.Path.{_≡_};
 ghost use Rattle.program.specs.Tables.{programIn};
-ghost use Rattle.shift.specs.Stay.{siteOf, goesOn, wentTo, stayOf, againLeft, atOf};
+ghost use Rattle.shift.specs.Stay.{siteOf, goesOn, wentTo, stayOf, againLeft, leftWord, atOf};
 
 // Where the run stands.
 pub fn site_of(t: &[u64; 768], k: Stay) -> Site
@@ -78,6 +78,16 @@ fn again_left(left: u64, how: How) -> u64
     0
 }
 
+// The word of the instruction that did not go to another address; 0 where the last one did.
+fn left_word(t: &[u64; 768], how: How, m: u32, pc: usize) -> u64
+    ensures value { λ r. ⌜ r ≡ leftWord (programIn (now (t .entry))) how m pc ⌝ }
+{
+    if let How::Went = how {
+        return 0;
+    }
+    program::code_word(t, m as usize, pc) as u64
+}
+
 // Where a run has come to that stayed in its frame.
 pub fn at_of(t: &[u64; 768], run: Run, j: Stay) -> At
     ensures value { λ r. ⌜ r ≡ atOf (programIn (now (t .entry))) run j ⌝ }
@@ -85,7 +95,7 @@ pub fn at_of(t: &[u64; 768], run: Run, j: Stay) -> At
     let tally = run.tally;
     let stop = run.stop;
     let how = j.how;
-    let word = program::code_word(t, j.method as usize, j.pc) as u64;
+    let word = left_word(t, how, j.method, j.pc);
     let run = Run {
         left: again_left(j.left, how),
         tally,

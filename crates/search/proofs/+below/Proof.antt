@@ -5,7 +5,7 @@ use native.Mathlib.Omega.{arith}
 use borrow.Fn.Kinds.{In}
 use borrow.Fn.PlainCycle.{Measures, is, falls, and}
 use Rattle.program.specs.Tables.{programIn}
-use Rattle.search.proofs.Upward.{below-self, below-above, below-end}
+use Rattle.search.proofs.Upward.{below-lower, below-above, below-end}
 use Rattle.search.proofs.below.Reads as below
 use Rattle.search.proofs.below.Kinds as below-kinds
 use Rattle.search.proofs.+below.Lts-below as below-lts
@@ -30,7 +30,7 @@ below-returns : (t : ℕ) → below-lts.Need-returns (
 ) (below-at t) below.Post
 below-returns t c =
     let a = c .before .args in
-    sym (below-self (programIn (a .t .now)) (a .c) (a .top) (c .if1 .taken))
+    below-lower (programIn (a .t .now)) (a .c) (a .top) (c .if1 .taken)
 
 below-superclass-requires : (t : ℕ) → below-lts.Need-superclass-requires (
   superclass-reads.Asked,
@@ -58,7 +58,7 @@ below-returns-2 t c =
     let b = c .before .before in
     let a = b .before .before .args in
     c .below .ensures
-    ∙ sym (below-above (programIn (a .t .now)) (a .c) (a .top) (b .before .if1 .left) (b .superclass .result) (b .superclass .ensures) (c .before .if2 .taken))
+    ∙ sym (below-above (programIn (a .t .now)) (a .c) (a .top) (λ e. omega (arith, e, b .before .if1 .left)) (b .superclass .result) (b .superclass .ensures) (c .before .if2 .taken))
 
 below-returns-3 : (t : ℕ) → below-lts.Need-returns-3 (
   superclass-reads.Asked,
@@ -69,7 +69,7 @@ below-returns-3 : (t : ℕ) → below-lts.Need-returns-3 (
 below-returns-3 t c =
     let b = c .before in
     let a = b .before .before .args in
-    sym (below-end (programIn (a .t .now)) (a .c) (a .top) (b .before .if1 .left) (b .superclass .result) (b .superclass .ensures) (c .if2 .left))
+    sym (below-end (programIn (a .t .now)) (a .c) (a .top) (λ e. omega (arith, e, b .before .if1 .left)) (b .superclass .result) (b .superclass .ensures) (c .if2 .left))
 
 pub +below-spec : {M : Type 1} → statement M
 +below-spec = close μ-below λ t. below-lts.spec (

@@ -3,17 +3,14 @@ use native.Mathlib.Omega.{arith}
 use Rattle.shift.proofs.stays.at_of.Statement.{statement}
 use Rattle.shift.proofs.stays.at_of.Tie as tie
 
-cast-code-word : tie.Need-cast-code-word
-cast-code-word c = omega arith
-
-code-word-requires : tie.Need-code-word-requires
-code-word-requires c κs = tt
+left-word-requires : tie.Need-left-word-requires
+left-word-requires c κs = tt
 
 again-left-requires : tie.Need-again-left-requires
 again-left-requires c κs = tt
 
-cast-t12 : tie.Need-cast-t12
-cast-t12 c = omega arith
+cast-t11 : tie.Need-cast-t11
+cast-t11 c = omega arith
 
 opcode-requires : tie.Need-opcode-requires
 opcode-requires c κs = tt
@@ -23,16 +20,15 @@ returns c =
     rw (
       c .opcode .ensures,
       c .before .before .again-left .ensures,
-      c .before .before .before .code-word .ensures,
+      c .before .before .before .left-word .ensures,
     )
 
 pub at-of-spec : {M : Type 1} → statement M
 at-of-spec =
     tie.close
     (tie.spec
-    cast-code-word
-    code-word-requires
+    left-word-requires
     again-left-requires
-    cast-t12
+    cast-t11
     opcode-requires
     returns)
