@@ -1,4 +1,4 @@
--- `turns::execute` meets its contract: a branch. Assumes nothing.
+-- `turns::dispatch::execute` meets its contract: a branch. Assumes nothing.
 use mathlib.Core.Path.{refl}
 use denote.Triple.Spec.{tripleOf}
 use denote.Triple.Table.{entered, cited}
@@ -14,14 +14,14 @@ use Rattle.drive.proofs.Driver.{Drive}
 use Rattle.drive.proofs.Branch as br
 use Rattle.shift.proofs.ready.Symbol as test-def
 use Rattle.shift.proofs.ready.Met as test-thm
-use Rattle.turns.proofs.apply.Symbol as yes-def
-use Rattle.turns.proofs.apply.Met as yes-thm
-use Rattle.turns.proofs.from_raises.Symbol as no-def
-use Rattle.turns.proofs.from_raises.Met as no-thm
-use Rattle.turns.proofs.execute.Key.{name as #f}
-use Rattle.turns.proofs.execute as f
-use Rattle.turns.proofs.execute.Statement as stated
-use Rattle.turns.proofs.execute.Code as code
+use Rattle.turns.proofs.dispatch.apply.Symbol as yes-def
+use Rattle.turns.proofs.dispatch.apply.Met as yes-thm
+use Rattle.turns.proofs.dispatch.from_raises.Symbol as no-def
+use Rattle.turns.proofs.dispatch.from_raises.Met as no-thm
+use Rattle.turns.proofs.dispatch.execute.Key.{name as #f}
+use Rattle.turns.proofs.dispatch.execute as f
+use Rattle.turns.proofs.dispatch.execute.Statement as stated
+use Rattle.turns.proofs.dispatch.execute.Code as code
 
 pub execute-spec : {M : Type 1} → stated.statement M
 unfolding code.routine tablesOf
@@ -31,5 +31,5 @@ execute-spec 𝓤 H 𝓜 𝓖 𝓡 =
     (br.meets At.the-type At′.the-laws At′.the-plain Ru.the-type Ru′.the-laws Ru′.the-plain (λ h. isLeaves (h .how)) applied fromRaises test-def.name yes-def.name no-def.name
     𝓤 H (𝓖 .A) (givenOf 𝓤 H 𝓜 𝓖) (λ _. tt) (λ _ _. refl) apply-keeps raises-keeps (tablesOf 𝓤 H 𝓜 (tables 𝓤 H 𝓜 𝓡 code.env))
     (cited 𝓤 H (br.Test At.the-type At′.the-laws At′.the-plain Ru.the-type Ru′.the-laws Ru′.the-plain (λ h. isLeaves (h .how)) applied fromRaises 𝓤 H (𝓖 .A)) 𝓜 𝓡 code.env test-def.name test-def.routine code.calls-shift·ready (test-thm.met 𝓤 H 𝓜 𝓖 𝓡))
-    (cited 𝓤 H (Drive At.the-type At′.the-laws At′.the-plain Ru.the-type Ru′.the-laws Ru′.the-plain applied 𝓤 H (𝓖 .A)) 𝓜 𝓡 code.env yes-def.name yes-def.routine code.calls-turns·apply (yes-thm.met 𝓤 H 𝓜 𝓖 𝓡))
-    (cited 𝓤 H (Drive At.the-type At′.the-laws At′.the-plain Ru.the-type Ru′.the-laws Ru′.the-plain fromRaises 𝓤 H (𝓖 .A)) 𝓜 𝓡 code.env no-def.name no-def.routine code.calls-turns·from-raises (no-thm.met 𝓤 H 𝓜 𝓖 𝓡)))
+    (cited 𝓤 H (Drive At.the-type At′.the-laws At′.the-plain Ru.the-type Ru′.the-laws Ru′.the-plain applied 𝓤 H (𝓖 .A)) 𝓜 𝓡 code.env yes-def.name yes-def.routine code.calls-turns·dispatch·apply (yes-thm.met 𝓤 H 𝓜 𝓖 𝓡))
+    (cited 𝓤 H (Drive At.the-type At′.the-laws At′.the-plain Ru.the-type Ru′.the-laws Ru′.the-plain fromRaises 𝓤 H (𝓖 .A)) 𝓜 𝓡 code.env no-def.name no-def.routine code.calls-turns·dispatch·from-raises (no-thm.met 𝓤 H 𝓜 𝓖 𝓡)))

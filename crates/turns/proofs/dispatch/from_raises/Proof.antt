@@ -1,4 +1,4 @@
--- `turns::from_raises` meets its contract: a branch. Assumes nothing.
+-- `turns::dispatch::from_raises` meets its contract: a branch. Assumes nothing.
 use mathlib.Core.Path.{refl}
 use denote.Triple.Spec.{tripleOf}
 use denote.Triple.Table.{entered, cited}
@@ -16,12 +16,12 @@ use Rattle.shift.proofs.raises.Symbol as test-def
 use Rattle.shift.proofs.raises.Met as test-thm
 use Rattle.turns.proofs.raise_new.Symbol as yes-def
 use Rattle.turns.proofs.raise_new.Met as yes-thm
-use Rattle.turns.proofs.rest.Symbol as no-def
-use Rattle.turns.proofs.rest.Met as no-thm
-use Rattle.turns.proofs.from_raises.Key.{name as #f}
-use Rattle.turns.proofs.from_raises as f
-use Rattle.turns.proofs.from_raises.Statement as stated
-use Rattle.turns.proofs.from_raises.Code as code
+use Rattle.turns.proofs.dispatch.rest.Symbol as no-def
+use Rattle.turns.proofs.dispatch.rest.Met as no-thm
+use Rattle.turns.proofs.dispatch.from_raises.Key.{name as #f}
+use Rattle.turns.proofs.dispatch.from_raises as f
+use Rattle.turns.proofs.dispatch.from_raises.Statement as stated
+use Rattle.turns.proofs.dispatch.from_raises.Code as code
 
 pub from-raises-spec : {M : Type 1} → stated.statement M
 unfolding code.routine tablesOf
@@ -32,4 +32,4 @@ from-raises-spec 𝓤 H 𝓜 𝓖 𝓡 =
     𝓤 H (𝓖 .A) (givenOf 𝓤 H 𝓜 𝓖) (λ _. tt) (λ _ _. refl) (shift-keeps newShifting) rest-keeps (tablesOf 𝓤 H 𝓜 (tables 𝓤 H 𝓜 𝓡 code.env))
     (cited 𝓤 H (br.Test At.the-type At′.the-laws At′.the-plain Ru.the-type Ru′.the-laws Ru′.the-plain (λ h. isRaises (h .how)) newDone restDone 𝓤 H (𝓖 .A)) 𝓜 𝓡 code.env test-def.name test-def.routine code.calls-shift·raises (test-thm.met 𝓤 H 𝓜 𝓖 𝓡))
     (cited 𝓤 H (Drive At.the-type At′.the-laws At′.the-plain Ru.the-type Ru′.the-laws Ru′.the-plain newDone 𝓤 H (𝓖 .A)) 𝓜 𝓡 code.env yes-def.name yes-def.routine code.calls-turns·raise-new (yes-thm.met 𝓤 H 𝓜 𝓖 𝓡))
-    (cited 𝓤 H (Drive At.the-type At′.the-laws At′.the-plain Ru.the-type Ru′.the-laws Ru′.the-plain restDone 𝓤 H (𝓖 .A)) 𝓜 𝓡 code.env no-def.name no-def.routine code.calls-turns·rest (no-thm.met 𝓤 H 𝓜 𝓖 𝓡)))
+    (cited 𝓤 H (Drive At.the-type At′.the-laws At′.the-plain Ru.the-type Ru′.the-laws Ru′.the-plain restDone 𝓤 H (𝓖 .A)) 𝓜 𝓡 code.env no-def.name no-def.routine code.calls-turns·dispatch·rest (no-thm.met 𝓤 H 𝓜 𝓖 𝓡)))

@@ -1,4 +1,4 @@
--- `turns::rest` meets its contract: a function without slices. Assumes nothing.
+-- `turns::dispatch::rest` meets its contract: a function without slices. Assumes nothing.
 use mathlib.Core.Path.{refl}
 use denote.Triple.Spec.{tripleOf}
 use denote.Triple.Table.{entered, cited}
@@ -11,10 +11,10 @@ use Rattle.shift.specs.Stay.{othersOf}
 use Rattle.drive.proofs.Pure as pure
 use Rattle.shift.proofs.others.Symbol as pure-def
 use Rattle.shift.proofs.others.Met as pure-thm
-use Rattle.turns.proofs.rest.Key.{name as #f}
-use Rattle.turns.proofs.rest as f
-use Rattle.turns.proofs.rest.Statement as stated
-use Rattle.turns.proofs.rest.Code as code
+use Rattle.turns.proofs.dispatch.rest.Key.{name as #f}
+use Rattle.turns.proofs.dispatch.rest as f
+use Rattle.turns.proofs.dispatch.rest.Statement as stated
+use Rattle.turns.proofs.dispatch.rest.Code as code
 
 pub rest-spec : {M : Type 1} → stated.statement M
 unfolding code.routine tablesOf

@@ -1,4 +1,4 @@
--- `turns::from_throw` meets its contract: a branch. Assumes nothing.
+-- `turns::dispatch::from_throw` meets its contract: a branch. Assumes nothing.
 use mathlib.Core.Path.{refl}
 use denote.Triple.Spec.{tripleOf}
 use denote.Triple.Table.{entered, cited}
@@ -18,10 +18,10 @@ use Rattle.turns.proofs.raise.Symbol as yes-def
 use Rattle.turns.proofs.raise.Met as yes-thm
 use Rattle.turns.proofs.make.Symbol as no-def
 use Rattle.turns.proofs.make.Met as no-thm
-use Rattle.turns.proofs.from_throw.Key.{name as #f}
-use Rattle.turns.proofs.from_throw as f
-use Rattle.turns.proofs.from_throw.Statement as stated
-use Rattle.turns.proofs.from_throw.Code as code
+use Rattle.turns.proofs.dispatch.from_throw.Key.{name as #f}
+use Rattle.turns.proofs.dispatch.from_throw as f
+use Rattle.turns.proofs.dispatch.from_throw.Statement as stated
+use Rattle.turns.proofs.dispatch.from_throw.Code as code
 
 pub from-throw-spec : {M : Type 1} → stated.statement M
 unfolding code.routine tablesOf

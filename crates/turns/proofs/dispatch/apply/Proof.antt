@@ -1,4 +1,4 @@
--- `turns::apply` meets its contract: a branch. Assumes nothing.
+-- `turns::dispatch::apply` meets its contract: a branch. Assumes nothing.
 use mathlib.Core.Path.{refl}
 use denote.Triple.Spec.{tripleOf}
 use denote.Triple.Table.{entered, cited}
@@ -16,12 +16,12 @@ use Rattle.shift.proofs.is_static.Symbol as test-def
 use Rattle.shift.proofs.is_static.Met as test-thm
 use Rattle.turns.proofs.call_static.Symbol as yes-def
 use Rattle.turns.proofs.call_static.Met as yes-thm
-use Rattle.turns.proofs.from_virtual.Symbol as no-def
-use Rattle.turns.proofs.from_virtual.Met as no-thm
-use Rattle.turns.proofs.apply.Key.{name as #f}
-use Rattle.turns.proofs.apply as f
-use Rattle.turns.proofs.apply.Statement as stated
-use Rattle.turns.proofs.apply.Code as code
+use Rattle.turns.proofs.dispatch.from_virtual.Symbol as no-def
+use Rattle.turns.proofs.dispatch.from_virtual.Met as no-thm
+use Rattle.turns.proofs.dispatch.apply.Key.{name as #f}
+use Rattle.turns.proofs.dispatch.apply as f
+use Rattle.turns.proofs.dispatch.apply.Statement as stated
+use Rattle.turns.proofs.dispatch.apply.Code as code
 
 pub apply-spec : {M : Type 1} → stated.statement M
 unfolding code.routine tablesOf
@@ -32,4 +32,4 @@ apply-spec 𝓤 H 𝓜 𝓖 𝓡 =
     𝓤 H (𝓖 .A) (givenOf 𝓤 H 𝓜 𝓖) (λ _. tt) (λ _ _. refl) (shift-keeps staticShifting) virtual-keeps (tablesOf 𝓤 H 𝓜 (tables 𝓤 H 𝓜 𝓡 code.env))
     (cited 𝓤 H (br.Test At.the-type At′.the-laws At′.the-plain Ru.the-type Ru′.the-laws Ru′.the-plain (λ h. eqb (h .opcode) 13) staticDone fromVirtual 𝓤 H (𝓖 .A)) 𝓜 𝓡 code.env test-def.name test-def.routine code.calls-shift·is-static (test-thm.met 𝓤 H 𝓜 𝓖 𝓡))
     (cited 𝓤 H (Drive At.the-type At′.the-laws At′.the-plain Ru.the-type Ru′.the-laws Ru′.the-plain staticDone 𝓤 H (𝓖 .A)) 𝓜 𝓡 code.env yes-def.name yes-def.routine code.calls-turns·call-static (yes-thm.met 𝓤 H 𝓜 𝓖 𝓡))
-    (cited 𝓤 H (Drive At.the-type At′.the-laws At′.the-plain Ru.the-type Ru′.the-laws Ru′.the-plain fromVirtual 𝓤 H (𝓖 .A)) 𝓜 𝓡 code.env no-def.name no-def.routine code.calls-turns·from-virtual (no-thm.met 𝓤 H 𝓜 𝓖 𝓡)))
+    (cited 𝓤 H (Drive At.the-type At′.the-laws At′.the-plain Ru.the-type Ru′.the-laws Ru′.the-plain fromVirtual 𝓤 H (𝓖 .A)) 𝓜 𝓡 code.env no-def.name no-def.routine code.calls-turns·dispatch·from-virtual (no-thm.met 𝓤 H 𝓜 𝓖 𝓡)))
