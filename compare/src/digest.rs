@@ -1,5 +1,6 @@
 //! Answers as one printed line each, in lowercase hexadecimal.
 
+use crate::handlers::handler_for;
 use crate::machine::Answer;
 use crate::program::Program;
 use crate::writer::Written;
@@ -9,14 +10,15 @@ const MODULUS: u64 = 4_294_967_291;
 const FACTOR: u64 = 257;
 
 /// `read`, the counts of classes, fields, statics, methods, instructions and
-/// handlers, and the checksum; or `refused`, number and line.
+/// handlers, the checksum and that of the handlers taken; or `refused`, number
+/// and line.
 pub fn describe(answer: &Result<Program, Refusal>) -> String {
     match answer {
         Ok(program) => {
             let instructions: usize = program.methods.iter().map(|m| m.code.len()).sum();
             let handlers: usize = program.methods.iter().map(|m| m.handlers.len()).sum();
             format!(
-                "read {:02x} {:02x} {:02x} {:02x} {:04x} {:04x} {:08x}",
+                "read {:02x} {:02x} {:02x} {:02x} {:04x} {:04x} {:08x} {:08x}",
                 program.classes.len(),
                 program.fields.len(),
                 program.statics,
@@ -24,6 +26,7 @@ pub fn describe(answer: &Result<Program, Refusal>) -> String {
                 instructions,
                 handlers,
                 checksum(program),
+                taken_sum(program),
             )
         }
         Err(refusal) => format!("refused {:02x} {:08x}", refusal.number, refusal.line),
@@ -50,6 +53,18 @@ pub fn describe_written(answer: &Written) -> String {
 /// A checksum over the bytes of the program's frames, in order.
 pub fn checksum(program: &Program) -> u32 {
     sum(program.frames().concat().into_iter().map(u64::from))
+}
+
+/// A checksum over what the search for a handler answers at each address of
+/// each method for each class: the number and one more, or 0 for none.
+pub fn taken_sum(program: &Program) -> u32 {
+    let classes = || 0..program.classes.len() as u8;
+    let answers = program.methods.iter().flat_map(|method| {
+        (0..method.code.len() as u8).flat_map(move |address| {
+            classes().map(move |class| handler_for(program, method, address, class))
+        })
+    });
+    sum(answers.map(|number| number.map_or(0, |number| number as u64 + 1)))
 }
 
 /// A checksum over the bytes of the checker's or the writer's memory.
@@ -82,7 +97,23 @@ mod tests {
             power = power * FACTOR % MODULUS;
         }
         assert_eq!(u64::from(checksum(&program)), sum);
-        assert_eq!(describe(&Ok(program)), format!("read 05 00 00 01 0001 0000 {sum:08x}"));
+        // Five classes at one address, none of them taken.
+        let none = (0..5).map(|place| FACTOR.pow(place)).sum::<u64>() % MODULUS;
+        let line = format!("read 05 00 00 01 0001 0000 {sum:08x} {none:08x}");
+        assert_eq!(describe(&Ok(program)), line);
+    }
+
+    /// Two addresses under two handlers, the first line of which has number 1,
+    /// and a method without handlers.
+    #[test]
+    fn handlers_taken_are_summed_by_number() {
+        let text = b"01ff\n0100\n0101\n0101\n0101\n\
+            040000010100\n060000000000000000\n061100000000000000\n\
+            0500010002\n0500020001\n040001010100\n061100000000000000\n";
+        let program = crate::reader::read(text).unwrap();
+        let answers = [[0, 1, 2, 1, 1], [0, 1, 1, 1, 1], [0; 5]].concat();
+        let sum = answers.iter().fold(0, |sum, byte| (sum * 257 + byte + 1) % 4_294_967_291u64);
+        assert_eq!(u64::from(taken_sum(&program)), sum);
     }
 
     #[test]

@@ -4,6 +4,7 @@ mod build;
 mod calls;
 mod combined;
 mod fields;
+mod handler_lists;
 mod lexical;
 pub(crate) mod mutations;
 mod operands;
@@ -60,8 +61,12 @@ pub fn largest_program() -> Program {
 /// order and length; random changes.
 pub fn suite() -> [Vec<Case>; 4] {
     let mut groups = [
-        shapes::cases(),
-        [operands::cases(), fields::cases(), calls::cases(), raised_classes::cases()].concat(),
+        [shapes::cases(), handler_lists::programs()].concat(),
+        [
+            [operands::cases(), fields::cases(), calls::cases(), raised_classes::cases()].concat(),
+            handler_lists::bad_lines(),
+        ]
+        .concat(),
         [lexical::cases(), order::cases(), combined::cases()].concat(),
         mutations::cases(),
     ];

@@ -5,6 +5,7 @@ mod changes;
 mod damage;
 mod exception_programs;
 mod flow_programs;
+mod handler_lists;
 mod largest;
 mod memory;
 mod object_programs;
@@ -104,7 +105,8 @@ pub fn written_programs() -> Vec<Program> {
 
 /// All cases, each once: written programs; random programs; claims, programs
 /// and memory that are refused; the largest claims. Where memory is just
-/// enough, every sixth case has a little more.
+/// enough, every sixth case has a little more, but none of the lists of
+/// handlers.
 pub fn suite() -> [Vec<Case>; 4] {
     let mut groups = [
         [sample::cases(), changes::cases(), raises::cases()].concat(),
@@ -117,13 +119,14 @@ pub fn suite() -> [Vec<Case>; 4] {
         largest::cases(),
     ];
     let mut random = Random::new(70);
+    for case in groups.iter_mut().flatten().filter(|case| case.lent == LEAST_MEMORY) {
+        if random.once_in(6) {
+            case.lent = LEAST_MEMORY + random.below(40);
+        }
+    }
+    groups[0].extend(handler_lists::cases());
     let mut seen = HashSet::new();
     for group in &mut groups {
-        for case in group.iter_mut().filter(|case| case.lent == LEAST_MEMORY) {
-            if random.once_in(6) {
-                case.lent = LEAST_MEMORY + random.below(40);
-            }
-        }
         group.retain(|case| seen.insert((case.program.clone(), case.claim.clone(), case.lent)));
     }
     groups

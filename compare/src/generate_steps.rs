@@ -5,6 +5,7 @@ mod damage;
 mod dispatch;
 mod exceptions;
 mod faults;
+mod handler_lists;
 mod handlers;
 mod limits;
 mod object_programs;
@@ -109,9 +110,21 @@ fn endless(program: &Program, counts: &[u64]) -> Vec<Case> {
 }
 
 /// All cases, each text and count once but for other memory: operations;
-/// calls, exceptions thrown and raised, storage and faults; random programs; limits and damaged
-/// texts. Where memory is enough, every third has a little more.
+/// calls, exceptions thrown and raised, storage, faults and lists of handlers;
+/// random programs; limits and damaged texts. Where memory is enough, every
+/// third has a little more; the lists of handlers have just enough.
 pub fn suite() -> [Vec<Case>; 4] {
+    let mut groups = without_lists();
+    groups[1].extend(handler_lists::cases());
+    let mut seen = HashSet::new();
+    for group in &mut groups {
+        group.retain(|case| seen.insert((case.text.clone(), case.n, case.lent)));
+    }
+    groups
+}
+
+/// All cases but the lists of handlers.
+fn without_lists() -> [Vec<Case>; 4] {
     let mut groups = [
         [operations::cases(), programs::cases()].concat(),
         [
@@ -124,14 +137,19 @@ pub fn suite() -> [Vec<Case>; 4] {
         [limits::cases(), damage::cases()].concat(),
     ];
     let mut random = Random::new(40);
-    let mut seen = HashSet::new();
-    for group in &mut groups {
-        for case in group.iter_mut().filter(|case| case.lent == LEAST) {
-            if random.once_in(3) {
-                case.lent = [0, 1, 2].map(|i| random.within(LEAST[i]..=GREATEST[i]));
-            }
+    for case in groups.iter_mut().flatten().filter(|case| case.lent == LEAST) {
+        if random.once_in(3) {
+            case.lent = [0, 1, 2].map(|i| random.within(LEAST[i]..=GREATEST[i]));
         }
-        group.retain(|case| seen.insert((case.text.clone(), case.n, case.lent)));
     }
     groups
+}
+
+/// The texts of calls, exceptions, storage and faults, each once: programs for
+/// other suites to take some from.
+pub fn texts_of_calls() -> Vec<Vec<u8>> {
+    let [_, cases, ..] = without_lists();
+    let mut seen = HashSet::new();
+    let texts = cases.into_iter().map(|case| case.text);
+    texts.filter(|text| seen.insert(text.clone())).collect()
 }

@@ -9,6 +9,7 @@ mod random_programs;
 mod refusals;
 mod storage_programs;
 
+use crate::catching;
 use crate::generate_claims;
 use crate::least::least;
 use crate::program::Program;
@@ -70,7 +71,8 @@ pub fn written_programs() -> Vec<Program> {
 /// All cases, each once: written programs; random ones; refusals and lengths;
 /// the largest programs.
 pub fn suite() -> [Vec<Case>; 4] {
-    let written = [written_programs(), generate_claims::written_programs(), chains()].concat();
+    let of_claims = [generate_claims::written_programs(), chains()].concat();
+    let written = [written_programs(), of_claims, catching::programs()].concat();
     let mut groups = [
         written.iter().map(Case::of).collect(),
         random_programs::cases(),

@@ -1,8 +1,9 @@
 //! A second implementation of panel programs, to compare answers with.
 //!
 //! * [`program`]: the structured program, and its [`opcode`]s;
+//! * [`handlers`]: the numbers of handlers, and the search among them;
 //! * [`assembly`]: programs written down in Rust, and [`raising`], those of
-//!   instructions that raise;
+//!   instructions that raise, and [`catching`], those of many handlers;
 //! * [`frame`]: one line of a text as bytes, and back;
 //! * [`reader`]: text to program, or the refusal (numbers 1 to 4 there,
 //!   numbers 5 and 6 in [`values`]);
@@ -25,6 +26,7 @@
 #![forbid(unsafe_code)]
 
 pub mod assembly;
+pub mod catching;
 pub mod checker;
 pub mod claim;
 pub mod coverage;
@@ -35,6 +37,7 @@ pub mod generate;
 pub mod generate_claims;
 pub mod generate_steps;
 pub mod generate_writes;
+pub mod handlers;
 pub mod inside;
 pub mod least;
 pub mod machine;

@@ -43,6 +43,8 @@ pub struct Method {
     /// Number of arguments, held in the last registers.
     pub arguments: u8,
     pub code: Vec<Instruction>,
+    /// In the order of the text; their numbers are those of
+    /// [`by_number`](Method::by_number).
     pub handlers: Vec<Handler>,
 }
 
@@ -78,7 +80,7 @@ impl Method {
         self
     }
 
-    /// The same method with these handlers.
+    /// The same method with these handlers, in the order of the text.
     pub fn with_handlers(mut self, handlers: Vec<Handler>) -> Method {
         self.handlers = handlers;
         self

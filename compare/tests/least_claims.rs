@@ -2,6 +2,7 @@
 //! many.
 
 use compare::assembly::{program, *};
+use compare::catching;
 use compare::checker::{check, Verdict, Violation, LEAST_MEMORY};
 use compare::claim::write::text;
 use compare::claim::{Claim, NUMBERS, ZERO};
@@ -51,7 +52,7 @@ fn calls(program: &Program, claim: &Claim) -> BTreeSet<[u8; 3]> {
 /// Written programs, random ones, and those of the reader's texts.
 fn programs() -> Vec<Program> {
     let mut random = Random::new(91);
-    let mut programs = [written_programs(), chains()].concat();
+    let mut programs = [written_programs(), chains(), catching::programs()].concat();
     programs.extend((0..40).map(|_| likely_program(&mut random)));
     programs.extend((0..60).map(|_| random_calls(&mut random)));
     programs.extend(suite()[0].iter().filter_map(|case| read(&case.text).ok()));
@@ -74,7 +75,7 @@ fn least_and_greatest_claims_are_accepted_with_all_their_calls() {
 /// for the rules one by one.
 #[test]
 fn no_bit_of_a_least_claim_can_be_missed() {
-    for program in [written_programs(), chains()].concat() {
+    for program in [written_programs(), chains(), catching::programs()].concat() {
         let frames = least(&program).frames(&program);
         for frame in 0..frames.len() {
             for place in 0..frames[frame].masks.len() {

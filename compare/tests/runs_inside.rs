@@ -1,6 +1,7 @@
 //! Demand 3: the run of a program stays inside the masks of a claim that is
 //! accepted, makes only listed calls, and exceptions leave only as claimed.
 
+use compare::catching;
 use compare::checker::{check, Verdict, CALL, LEAST_MEMORY};
 use compare::generate_claims::{random_calls, suite, written_programs};
 use compare::generate_steps::{self, likely_program};
@@ -40,7 +41,7 @@ fn follow(accepted: &Accepted, steps: u64) -> Machine {
 #[test]
 fn runs_stay_inside_least_claims() {
     let mut random = Random::new(95);
-    let mut programs = [written_programs(), chains()].concat();
+    let mut programs = [written_programs(), chains(), catching::programs()].concat();
     programs.extend((0..150).map(|_| likely_program(&mut random)));
     programs.extend((0..100).map(|_| random_calls(&mut random)));
     let mut seen = HashSet::new();

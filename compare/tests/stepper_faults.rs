@@ -89,6 +89,33 @@ fn the_first_fitting_handler_is_taken() {
     assert_eq!(caught_at(5, vec![Handler::new(1, 2, 4, 1)]), Some(4));
 }
 
+/// Throws an object of class 5 at address 1 under eight handlers, `x` for one
+/// that fits. They go to addresses 2 to 9, the last one to 2.
+fn caught_of_eight(pattern: &str) -> Option<u64> {
+    let mut code = vec![new_instance(0, 5), throw(0)];
+    code.extend((2..10).map(goto));
+    let fitting = [(1, 2, 5), (0, 2, 4), (1, 10, 1), (0, 10, 0)];
+    let others = [(0, 1, 0), (2, 10, 0), (1, 2, 2), (0, 10, 3)];
+    let handler = |(place, written): (usize, char)| {
+        let (from, to, class) = if written == 'x' { fitting } else { others }[place % 4];
+        Handler::new(from, to, 9 - place as u8, class)
+    };
+    let handlers = pattern.chars().enumerate().map(handler).collect();
+    let program = with_methods(vec![main_method(1, code).with_handlers(handlers)]);
+    let (report, frames) = run_for(&program, 50);
+    (report.number == 22).then_some(frames[1])
+}
+
+#[test]
+fn of_eight_handlers_the_first_line_that_fits_is_taken() {
+    assert_eq!(caught_of_eight("xxxxxxxx"), Some(9));
+    assert_eq!(caught_of_eight(".xxxxxxx"), Some(8));
+    assert_eq!(caught_of_eight("...x.x.."), Some(6));
+    assert_eq!(caught_of_eight("......xx"), Some(3));
+    assert_eq!(caught_of_eight(".......x"), Some(2));
+    assert_eq!(caught_of_eight("........"), None);
+}
+
 #[test]
 fn each_caller_has_its_turn() {
     let thrower = static_method(2, 1, 0, vec![new_instance(0, 5), throw(0)]);

@@ -178,16 +178,15 @@ impl Rules<'_> {
         self.leave(here, leaving)
     }
 
-    /// Rules 9 and 10 for exceptions of these classes.
+    /// Rules 9 and 10 for exceptions of these classes. A handler takes those
+    /// that it catches of what the ones with higher numbers have left.
     fn leave(&self, here: Here, mut classes: u64) -> Asked {
         if classes == 0 {
             return Ok(());
         }
-        for handler in &self.program.methods[here.method].handlers {
+        for handler in self.program.methods[here.method].by_number().rev() {
             let caught = classes & self.sets.below[usize::from(handler.class)];
-            let covers =
-                usize::from(handler.from) <= here.address && here.address < usize::from(handler.to);
-            if covers && caught != 0 {
+            if caught != 0 && handler.covers(here.address as u8) {
                 let target = self.claim.row(here.method, usize::from(handler.target));
                 let registers = here.row.len() - 1;
                 ask_each(9, &here.row[..registers], &target[..registers])?;

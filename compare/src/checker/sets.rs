@@ -100,15 +100,29 @@ pub fn elements(mut bits: u64) -> impl Iterator<Item = usize> {
     })
 }
 
+/// The same, falling.
+#[inline]
+pub fn falling_elements(mut bits: u64) -> impl Iterator<Item = usize> {
+    std::iter::from_fn(move || {
+        (bits != 0).then(|| {
+            let highest = bits.ilog2() as usize;
+            bits ^= 1 << highest;
+            highest
+        })
+    })
+}
+
 #[cfg(test)]
 mod tests {
     use super::*;
     use crate::assembly::*;
 
     #[test]
-    fn elements_rise() {
+    fn elements_rise_and_fall() {
         assert!(elements(0).next().is_none());
         assert!(elements(1 << 63 | 1 << 5 | 1).eq([0, 5, 63]));
+        assert!(falling_elements(0).next().is_none());
+        assert!(falling_elements(1 << 63 | 1 << 5 | 1).eq([63, 5, 0]));
     }
 
     /// Classes 5, 6, 7 one below the other, 8 beside 6. Class 6 has the name

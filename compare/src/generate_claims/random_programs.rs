@@ -9,7 +9,6 @@ use crate::least::least;
 use crate::program::Program;
 use crate::random::Random;
 use crate::reader::read;
-use std::collections::HashSet;
 
 pub fn cases() -> Vec<Case> {
     [any_programs(), calling_programs(), likely_programs(), steppers_programs()].concat()
@@ -61,11 +60,9 @@ fn likely_programs() -> Vec<Case> {
 /// The stepper's programs, those with short claims.
 fn steppers_programs() -> Vec<Case> {
     let mut random = Random::new(77);
-    let mut seen = HashSet::new();
-    let mut programs: Vec<Program> = generate_steps::suite()[1]
+    let mut programs: Vec<Program> = generate_steps::texts_of_calls()
         .iter()
-        .filter(|case| seen.insert(case.text.clone()))
-        .filter_map(|case| read(&case.text).ok())
+        .filter_map(|text| read(text).ok())
         .filter(|program| least(program).text(program).len() <= 900)
         .collect();
     while programs.len() > 90 {

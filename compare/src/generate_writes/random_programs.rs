@@ -4,7 +4,7 @@ use super::Case;
 use crate::fuzz::crowds::crowded_program;
 use crate::generate::shapes::small_program;
 use crate::generate_claims::random_calls;
-use crate::generate_steps::{self, likely_program};
+use crate::generate_steps::{likely_program, texts_of_calls};
 use crate::program::Program;
 use crate::random::Random;
 use crate::reader::read;
@@ -32,10 +32,8 @@ fn with_memory(random: &mut Random, program: &Program) -> Case {
 
 /// Some programs of the stepper's cases of calls, exceptions and storage.
 fn of_runs(random: &mut Random) -> Vec<Program> {
-    let [_, calls, ..] = generate_steps::suite();
-    let mut texts: Vec<Vec<u8>> = calls.into_iter().map(|case| case.text).collect();
+    let mut texts = texts_of_calls();
     texts.sort();
-    texts.dedup();
     while texts.len() > OF_RUNS {
         texts.swap_remove(random.below(texts.len()));
     }

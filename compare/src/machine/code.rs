@@ -54,6 +54,7 @@ pub struct Code {
 #[derive(Clone, Debug)]
 pub struct Body {
     pub ops: Vec<Op>,
+    /// By number.
     pub handlers: Vec<Handler>,
     pub arguments: u8,
     /// The register of the first argument.
@@ -121,7 +122,7 @@ fn callee(
 fn body(method: &Method, selectors: &[Selector]) -> Body {
     Body {
         ops: method.code.iter().map(|&instruction| decode(instruction, selectors)).collect(),
-        handlers: method.handlers.clone(),
+        handlers: method.by_number().copied().collect(),
         arguments: method.arguments,
         parameters: method.registers - method.arguments,
     }

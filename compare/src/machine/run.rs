@@ -4,6 +4,7 @@ use super::code::Code;
 use super::execute::{at_or_below, execute, Context, Leave};
 use super::state::{Cells, End, Frame, Heap, Limits, Stop};
 use super::value::Value;
+use crate::handlers::search;
 use crate::program::Program;
 
 /// A program and the state of its run.
@@ -75,13 +76,13 @@ impl Machine {
         self.steps += 1;
         let frame = self.frames.last_mut()?;
         let handlers = &self.code.methods[usize::from(frame.method)].handlers;
-        let handler = handlers.iter().find(|handler| {
-            (handler.from..handler.to).contains(&frame.address)
+        let taken = search(handlers.iter(), |handler| {
+            handler.covers(frame.address)
                 && at_or_below(&self.code, &self.heap, object, handler.class)
         });
-        if let Some(handler) = handler {
+        if let Some(number) = taken {
             frame.result = Value::Object(object);
-            frame.address = handler.target;
+            frame.address = handlers[number].target;
             self.pending = None;
         } else {
             self.frames.pop();

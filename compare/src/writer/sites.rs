@@ -3,7 +3,7 @@
 use super::addresses::Addresses;
 use crate::claim::Claim;
 use crate::opcode::*;
-use crate::program::{Handler, Instruction, Program};
+use crate::program::{Instruction, Method, Program};
 
 /// A set of registers of a frame as bits; its result comes after them.
 pub type Slots = u32;
@@ -30,7 +30,7 @@ pub struct Site {
     /// The slot of the result.
     pub result: u8,
     pub method: u8,
-    /// The handlers that cover the address, as bits.
+    /// The handlers that cover the address, as bits by number.
     pub handlers: u8,
 }
 
@@ -64,7 +64,7 @@ impl Sites {
             let entry = sites.all.len();
             sites.entries[number] = entry;
             let rows = claim.rows[number];
-            let covered = covered(&method.handlers);
+            let covered = covered(method);
             for (address, &instruction) in method.code.iter().enumerate() {
                 sites.note(entry + address, instruction);
                 let [next, jump, reads] = flows(instruction, method.registers);
@@ -95,11 +95,11 @@ impl Sites {
 }
 
 /// For each address the handlers that cover it.
-fn covered(handlers: &[Handler]) -> [u8; LENGTH] {
+fn covered(method: &Method) -> [u8; LENGTH] {
     let mut covered = [0; LENGTH];
-    for (place, handler) in handlers.iter().enumerate() {
+    for (number, handler) in method.by_number().enumerate() {
         for bits in &mut covered[usize::from(handler.from)..usize::from(handler.to)] {
-            *bits |= 1 << place;
+            *bits |= 1 << number;
         }
     }
     covered

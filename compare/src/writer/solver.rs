@@ -29,7 +29,7 @@ pub struct Solver<'p> {
 struct Seen {
     /// Slots that have grown since the last visit.
     grown: Slots,
-    /// Handlers that take a class here.
+    /// Handlers that take a class here, as bits by number.
     taking: u8,
     /// Classes whose fields were looked at.
     fields: u64,

@@ -82,6 +82,46 @@ fn the_first_handler_that_fits_takes_a_class() {
     assert_eq!(given.with(other), "violated 09 00 02");
 }
 
+/// A throw of class 4 at address 1 under eight handlers, which go to addresses
+/// 2 to 9, the last one to 2; those at these places in the text fit. The masks
+/// of the targets are empty.
+fn given_eight(fitting: &[usize]) -> Given {
+    let mut code = vec![new_instance(0, 4), throw(0)];
+    code.extend((2..10).map(goto));
+    let others = [(0, 1, 0), (2, 10, 0), (1, 2, 2), (0, 10, 3)];
+    let handler = |place: usize| {
+        let fits = fitting.contains(&place);
+        let (from, to, class) = if fits { (1, 2, [4, 1][place % 2]) } else { others[place % 4] };
+        Handler::new(from, to, 9 - place as u8, class)
+    };
+    let program = alone_with(1, code, (0..8).map(handler).collect());
+    let none: &[u64] = &[0, 0];
+    given(&program, &[&[&[Z, Z], &[C4, Z], none, none, none, none, none, none, none, none]])
+}
+
+#[test]
+fn of_eight_handlers_the_first_line_that_fits_takes_a_class() {
+    let filled = |claim: &mut Claim, targets: std::ops::Range<usize>| {
+        targets.for_each(|target| claim.row_mut(0, target).copy_from_slice(&[C4, C4]));
+    };
+    for (fitting, target) in
+        [(&[0, 1, 2, 3, 4, 5, 6, 7][..], 9), (&[2, 3, 6], 7), (&[6, 7], 3), (&[7], 2)]
+    {
+        let given = given_eight(fitting);
+        let only = |claim: &mut Claim| filled(claim, target..target + 1);
+        assert_eq!(given.with(only), ACCEPTED);
+        let others = |claim: &mut Claim| {
+            filled(claim, 2..target);
+            filled(claim, target + 1..10);
+        };
+        assert_eq!(given.with(others), "violated 09 00 01");
+        assert_eq!(given.with(|claim| claim.leaving[0] = C4), "violated 09 00 01");
+    }
+    let given = given_eight(&[]);
+    assert_eq!(given.with(|claim| filled(claim, 2..10)), "violated 0a 00 01");
+    assert_eq!(given.with(|claim| claim.leaving[0] = C4), ACCEPTED);
+}
+
 #[test]
 fn all_of_rule_9_comes_before_rule_10() {
     // Class 1 has no handler; class 4 has, and its bit is not there.

@@ -30,16 +30,18 @@ fn mix_header(t: &[u64; 768], m: usize, h: u64) -> u64 {
     mix_two(kind, program::registers(t, m), program::arguments(t, m))
 }
 
+// The handler in line i.
 fn mix_handler(t: &[u64; 768], m: usize, i: usize, h: u64) -> u64 {
+    let j = program::from_last(program::handler_count(t, m), i);
     let range = mix_two(
         mix(h, 5),
-        program::handler_from(t, m, i),
-        program::handler_to(t, m, i),
+        program::handler_from(t, m, j),
+        program::handler_to(t, m, j),
     );
     mix_two(
         range,
-        program::handler_target(t, m, i),
-        program::handler_class(t, m, i),
+        program::handler_target(t, m, j),
+        program::handler_class(t, m, j),
     )
 }
 

@@ -4,6 +4,7 @@ use record::Next;
 
 mod checks;
 mod digest;
+mod handlers;
 mod lent;
 mod number;
 mod record;

@@ -1,6 +1,7 @@
-// Texts for the reader: what is printed of each, a refusal with its number and line, or the counts and a checksum of the program
-// in the tables.
+// Texts for the reader: what is printed of each, a refusal with its number and line, or the counts of the program in the tables, a
+// checksum of it and one of its handlers' search.
 use super::digest;
+use super::handlers;
 use super::number;
 use frame::Kind;
 use libc::STDOUT_FILENO;
@@ -21,6 +22,7 @@ fn taken(t: &[u64; 768]) {
     number::print(digest::total(t, Kind::Code), 4);
     number::print(digest::total(t, Kind::Handler), 4);
     number::print(digest::checksum(t), 8);
+    number::print(handlers::checksum(t), 8);
 }
 
 // Reads a text into the tables and prints its line.

@@ -1,11 +1,9 @@
 -- What the rules give at a call and at a raised exception, and where a handler goes. Assumes nothing.
-use mathlib.Core.Path.{_≡_, refl, subst}
+use mathlib.Core.Path.{_≡_, refl}
 use mathlib.Core.Bool.{true}
-use mathlib.Core.Option.{Option, none, some}
 use Prim.Native.Nat.{ℕ, suc, _<_}
 use lib.Dec.{ltb}
 use borrow.Author.Tests.{ltb-true}
-use Rattle.text.proofs.Cases.{never}
 use Rattle.instruction.specs.declared.Instruction.{Instruction}
 use Rattle.instruction.specs.declared.Instruction.the-variants.{Nop, Move, Const, Goto, If, IfZero, Binop, Unop, NewInstance, Iget, Iput}
 use Rattle.instruction.specs.declared.Instruction.the-variants.{Sget, Sput, InvokeVirtual, InvokeStatic, MoveResult, MoveException}
@@ -14,15 +12,15 @@ use Rattle.instruction.specs.Word.{fallsThrough}
 use Rattle.instruction.proofs.Flags.{both-true}
 use native.Mathlib.Omega.{arith}
 use Rattle.mask.specs.Mask.{has}
-use Rattle.program.specs.Lists.{first, Every}
+use Rattle.program.specs.Lists.{Every}
 use Rattle.program.specs.Program.{Program, classCount, fieldCount, codeLength, instructionAt, handlerCount, handlerTarget}
 use Rattle.search.specs.declared.Handling.the-variants.{Caught}
-use Rattle.search.specs.Search.{hasField, catches, handlingOf, handlerFor}
+use Rattle.search.specs.Search.{hasField, handlerFor}
+use Rattle.search.proofs.Searches.{handler-highest}
 use Rattle.reader.specs.Formed.{Formed}
-use Rattle.machine.proofs.Found.{first-some}
 use Rattle.machine.proofs.Fitting.{method-exists}
 use Rattle.flow.specs.Claim.{leaving, Claim}
-use Rattle.flow.specs.Flows.{Flows, Holds}
+use Rattle.flow.specs.Flows.{Holds}
 use Rattle.flow.specs.Rules.{carried, returnedInto, intoHandler, intoLeaving, raisedBy, rulesOf}
 use Rattle.flow.specs.Calls.{CallAt, by-static, by-virtual}
 use Rattle.flow.specs.Inside.{Asked, RaisedAt}
@@ -34,15 +32,8 @@ unfolding hasField
 field-exists p k x e = ltb-true x (fieldCount p) (both-true (ltb x (fieldCount p)) _ e .0)
 
 -- a handler that is found is one of the method's
-handling-found : (p : Program) (m pc k h : ℕ) (r : Option ℕ) → first (handlerCount p m) (catches p m pc k) ≡ r → handlingOf r ≡ Caught h → h < handlerCount p m
-handling-found p m pc k h none q e = never (cc)
-handling-found p m pc k h (some i) q e =
-    let same : i ≡ h = cc in
-    rw (← same) (first-some (handlerCount p m) (catches p m pc k) i q .0)
-
 pub handler-exists : (p : Program) (m pc k h : ℕ) → handlerFor p m pc k ≡ Caught h → h < handlerCount p m
-unfolding handlerFor
-handler-exists p m pc k h e = handling-found p m pc k h (first (handlerCount p m) (catches p m pc k)) refl e
+handler-exists p m pc k h e = handler-highest p m pc k h e .within
 
 -- what the rules ask at a call of method q
 pub record CallRules (p : Program) (c : Claim) (m pc q : ℕ) : Type 0 where

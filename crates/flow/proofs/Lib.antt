@@ -10,6 +10,7 @@ pub mod Frames
 pub mod Decided
 pub mod Instructions
 pub mod Calls
+pub mod ByLine
 pub mod Objects
 pub mod Applied
 pub mod Keeps

@@ -14,10 +14,10 @@ use Rattle.instruction.specs.Word.{pick}
 use Rattle.instruction.proofs.Laws.{holds}
 use Rattle.program.proofs.Every.{every-append, every-parts, every-tab, tab-each, every-joined, joined-each}
 use Rattle.program.specs.Lists.{Every, oneMore, first, joined}
-use Rattle.program.specs.Program.{Program, methodCount, methodClass, methodName}
+use Rattle.program.specs.Program.{Program, methodCount, methodClass, methodName, handlerCount, fromLast}
 use Rattle.frame.specs.declared.Kind.{Kind}
 use Rattle.frame.specs.declared.Kind.the-variants.{Class, Field, Static, Header, Handler, Code, Unknown}
-use Rattle.values.specs.Values.{instructionTest, lastTest, alike, some?, repeated, valueMark, instructionMark}
+use Rattle.values.specs.Values.{instructionTest, lastTest, handlerTest, alike, some?, repeated, valueMark, instructionMark}
 use Rattle.marks.specs.Marks.{linesIn, markAt, marksIn, methodMarks, marks, firstMark}
 use Rattle.marks.specs.Valued.{Valued}
 use Rattle.marks.proofs.Zero.{Zero, first-mark, no-mark}
@@ -61,6 +61,13 @@ program-each p a =
     let t = every-parts Zero (marksIn p Static 0) j (s .1) in
     (r .0, s .0, joined-each Zero (methodCount p) (methodMarks p) (t .1))
 
+-- a handler by its number
+handler-holds : (p : Program) (m : ℕ) → Every Zero (marksIn p Handler m) → (h : ℕ) → h < handlerCount p m → Holds (handlerTest p m h)
+handler-holds p m a h l =
+    let n = handlerCount p m in
+    let back : fromLast n (fromLast n h) ≡ h = omega arith in
+    rw back at (value-holds (handlerTest p m (fromLast n (fromLast n h))) (marks-each p Handler m a (fromLast n h) (omega arith)))
+
 pub clear : (p : Program) → firstMark (marks p) 1 .number ≡ 0 → Valued p
 clear p e =
     let a = program-each p (no-mark (marks p) 1 e) in
@@ -70,7 +77,7 @@ clear p e =
       methods = λ m l. value-holds _ (marks-each p Header m (method-each p m (a .2 m l) .0) 0 (omega arith));
       code = λ m pc l k. code-holds p m pc (marks-each p Code m (method-each p m (a .2 m l) .1) pc k) .0;
       last = λ m pc l k. code-holds p m pc (marks-each p Code m (method-each p m (a .2 m l) .1) pc k) .1;
-      handlers = λ m h l k. value-holds _ (marks-each p Handler m (method-each p m (a .2 m l) .2) h k);
+      handlers = λ m h l k. handler-holds p m (method-each p m (a .2 m l) .2) h k;
     }
 
 -- 0, 5 or 6

@@ -4,7 +4,7 @@ use Prim.Native.Nat.{ℕ, _+_}
 use lib.Dec.{eqb}
 use Rattle.instruction.specs.Word.{pick}
 use Rattle.program.specs.Lists.{tab, joined}
-use Rattle.program.specs.Program.{Program, classCount, fieldCount, methodCount, codeLength, handlerCount}
+use Rattle.program.specs.Program.{Program, classCount, fieldCount, methodCount, codeLength, handlerCount, fromLast}
 use Rattle.frame.specs.declared.Kind.{Kind}
 use Rattle.frame.specs.declared.Kind.the-variants.{Class, Field, Static, Header, Handler, Code, Unknown}
 use Rattle.values.specs.Values.{classTest, fieldTest, methodTest, handlerTest, valueMark, instructionMark}
@@ -20,13 +20,13 @@ linesIn p Handler m = handlerCount p m
 linesIn p Code m = codeLength p m
 linesIn p Unknown m = 0
 
--- the mark of line i among them
+-- the mark of line i among them; a handler's number is counted from the last line
 abbrev pub markAt : Program → Kind → ℕ → ℕ → ℕ
 markAt p Class m i = valueMark (classTest p i)
 markAt p Field m i = valueMark (fieldTest p i)
 markAt p Static m i = 0
 markAt p Header m i = valueMark (methodTest p m)
-markAt p Handler m i = valueMark (handlerTest p m i)
+markAt p Handler m i = valueMark (handlerTest p m (fromLast (handlerCount p m) i))
 markAt p Code m i = instructionMark p m i
 markAt p Unknown m i = 0
 

@@ -37,7 +37,10 @@ fn mark_at(t: &[u64; 768], k: Kind, m: usize, i: usize) -> usize
         Kind::Field => values::value_mark(values::field_fits(t, i)),
         Kind::Static => 0,
         Kind::Header => values::value_mark(values::method_fits(t, m)),
-        Kind::Handler => values::value_mark(values::handler_fits(t, m, i)),
+        Kind::Handler => {
+            let h = program::from_last(program::handler_count(t, m), i);
+            values::value_mark(values::handler_fits(t, m, h))
+        }
         Kind::Code => values::instruction_mark(t, m, i),
         Kind::Unknown => 0,
     }

@@ -9,7 +9,8 @@ use borrow.Author.Tests.{ltb-true, ltb-false}
 use lib.Dec.{ltb}
 use lib.ListN.{length, getD, List·getD-eq-default}
 use Rattle.program.specs.Lists.{tab}
-use Rattle.program.specs.Program.{Method, noMethod, classCount, fieldCount, methodCount, methodAt, superclass, fieldClass, codeLength, wordAt, handlerCount, handlerAt}
+use Rattle.program.specs.Program.{Method, noMethod, classCount, fieldCount, methodCount, methodAt, superclass, fieldClass}
+use Rattle.program.specs.Program.{codeLength, wordAt, handlerCount}
 use Rattle.program.specs.Tables.{methodFrom, programIn}
 use Rattle.program.proofs.Lists.{length-tab, getD-tab}
 
@@ -114,6 +115,8 @@ module _ (ws : List ℕ) where
   unfolding methodFrom
   handlers-are m l = part-count (λ x. x .handlers) refl m (getD ws (82 + 3 * m) 0) 8 (λ i. getD ws (640 + 8 * m + i) 0) refl l
 
-  pub in-handlers : (m h : ℕ) → h < handlerCount (programIn ws) m → (m < 16) × (h < 8) × (handlerAt (programIn ws) m h ≡ getD ws (640 + 8 * m + h) 0)
+  -- the handler in line i
+  pub in-handlers : (m i : ℕ) → i < handlerCount (programIn ws) m
+      → (m < 16) × (i < 8) × (getD (methodAt (programIn ws) m .handlers) i 0 ≡ getD ws (640 + 8 * m + i) 0)
   unfolding methodFrom
-  in-handlers m h l = part-element (λ x. x .handlers) refl m (getD ws (82 + 3 * m) 0) 8 (λ i. getD ws (640 + 8 * m + i) 0) refl h l
+  in-handlers m i l = part-element (λ x. x .handlers) refl m (getD ws (82 + 3 * m) 0) 8 (λ i. getD ws (640 + 8 * m + i) 0) refl i l

@@ -1,4 +1,5 @@
--- Lists by index, lists put together, what holds of every element, and the first number that passes a test. Definitions only.
+-- Lists by index, lists put together, what holds of every element, the first and the last number that pass a test. Definitions
+-- only.
 use mathlib.Core.Bool.{Bool}
 use mathlib.Core.List.{List, [], _∷_, _++_}
 use mathlib.Core.Option.{Option, none, some}
@@ -28,3 +29,8 @@ oneMore (some i) = some (suc i)
 abbrev pub first : ℕ → (ℕ → Bool) → Option ℕ
 first zero test = none
 first (suc n) test = pick (test zero) (some zero) (oneMore (first n (λ k. test (suc k))))
+
+-- the last of them, by rising number: what is found when 0, 1, .., n - 1 have been asked, the latest that passes being kept
+abbrev pub last : ℕ → (ℕ → Bool) → Option ℕ
+last zero test = none
+last (suc n) test = pick (test n) (some n) (last n test)

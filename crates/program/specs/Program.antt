@@ -1,7 +1,7 @@
 -- A program, as document 01's section Text has it: what its frames say, in their order. The fields of a frame after its kind
 -- are kept as one number, the high byte first. Definitions only.
-use mathlib.Core.List.{List, []}
-use Prim.Native.Nat.{ℕ, _/_, _%_}
+use mathlib.Core.List.{List, [], reverse}
+use Prim.Native.Nat.{ℕ, suc, _-_, _/_, _%_}
 use lib.ListN.{length, getD}
 use Rattle.instruction.specs.declared.Instruction.{Instruction}
 use Rattle.instruction.specs.Word.{instructionOf}
@@ -90,8 +90,13 @@ instructionAt p m pc = instructionOf (wordAt p m pc)
 abbrev pub handlerCount : Program → ℕ → ℕ
 handlerCount p m = length (methodAt p m .handlers)
 
+-- document 02, note 3: "The reader is to number them so, 0 for the last in the text"
 abbrev pub handlerAt : Program → ℕ → ℕ → ℕ
-handlerAt p m h = getD (methodAt p m .handlers) h 0
+handlerAt p m h = getD (reverse (methodAt p m .handlers)) h 0
+
+-- the number of the handler in line i of n, both from 0; and the line of number i
+abbrev pub fromLast : ℕ → ℕ → ℕ
+fromLast n i = n - suc i
 
 abbrev pub handlerFrom : Program → ℕ → ℕ → ℕ
 handlerFrom p m h = handlerAt p m h / 16777216 % 256

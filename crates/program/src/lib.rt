@@ -4,7 +4,10 @@ use instruction::Instruction;
 ghost use mathlib.Core.Path.{_≡_};
 ghost use Prim.Native.Nat.{ℕ, _+_, _*_, _/_, _%_, min};
 ghost use lib.ListN.{length, getD};
-ghost use Rattle.program.specs.Program.{classCount, fieldCount, methodCount, superclass, fieldClass, methodAt, methodClass, methodName, methodKind, registers, arguments, codeLength, wordAt, instructionAt, handlerCount, handlerAt, handlerFrom, handlerTo, handlerTarget, handlerClass};
+ghost use Rattle.program.specs.Program.{classCount, fieldCount, methodCount, superclass, fieldClass, methodAt};
+ghost use Rattle.program.specs.Program.{methodClass, methodName, methodKind, registers, arguments, codeLength};
+ghost use Rattle.program.specs.Program.{wordAt, instructionAt, handlerCount, handlerAt, fromLast};
+ghost use Rattle.program.specs.Program.{handlerFrom, handlerTo, handlerTarget, handlerClass};
 ghost use Rattle.program.specs.Tables.{programIn};
 
 // An element, 0 past the end.
@@ -152,12 +155,20 @@ pub fn handler_count(t: &[u64; 768], m: usize) -> usize
     }
 }
 
-// The fields f t g c of a handler's frame.
+// The number of the handler in line i of n; 0 for the last. And the line of number i.
+pub fn from_last(n: usize, i: usize) -> usize
+    ensures value { λ r. ⌜ r ≡ fromLast n i ⌝ }
+{
+    if i < n { n - 1 - i } else { 0 }
+}
+
+// The fields f t g c of a handler's frame, by the handler's number.
 fn handler_word(t: &[u64; 768], m: usize, h: usize) -> usize
     ensures value { λ r. ⌜ r ≡ handlerAt (programIn (now (t .entry))) m h ⌝ }
 {
-    if h < handler_count(t, m) {
-        word(t, 640 + 8 * m + h)
+    let n = handler_count(t, m);
+    if h < n {
+        word(t, 640 + 8 * m + from_last(n, h))
     } else {
         0
     }

@@ -28,8 +28,8 @@ fn take_into(t: &[u64; 768], w: &mut [u64; 9712], m: usize, pc: usize, mask: Mas
     new | mark(join_result(w, m, to, mask), to)
 }
 
-// Handler by handler, each takes those that it catches of the rest; what is left leaves the method. That the method's own mask got new
-// bits is marked by 48.
+// Handler by handler in the order of the text, which is by falling number, each takes those that it catches of the rest; what is left
+// leaves the method. That the method's own mask got new bits is marked by 48.
 fn by_handler(
     t: &[u64; 768],
     w: &mut [u64; 9712],
@@ -44,16 +44,15 @@ fn by_handler(
         let d = claimIn (now (w .exit)) in
         ⌜ (now (s .entry) ≡ setsOf p → Leaving p m (raisedFlows p m pc mask) c d) ⌝ }
 {
-    let n = program::handler_count(t, m);
     let mut rest = mask.common(sets::classes(s));
     let mut new: u64 = 0;
-    let mut h: usize = 0;
-    while h < n {
+    let mut h = program::handler_count(t, m);
+    while h > 0 {
+        h -= 1;
         let taken = sets::caught(t, s, m, pc, rest, h);
         let more = take_into(t, &mut *w, m, pc, taken, program::handler_target(t, m, h));
         new = new | more;
         rest = rest.without(taken);
-        h += 1;
     }
     new | mark(join_leaving(w, m, rest), 48)
 }

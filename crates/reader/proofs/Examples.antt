@@ -92,6 +92,8 @@ rows =
     ∷ row (classes ++ "040000010100\n061100000000000001\n") 5 7
     ∷ row (classes ++ "040000010100\n061001000000000000\n") 5 7
     ∷ row (classes ++ main ++ main) 5 8
+    -- of three handlers the last two, f not below t and g past the end: the upper line, which has the higher number
+    ∷ row (classes ++ main ++ "0500010000\n0501010000\n0500010100\n") 5 9
     -- "under five classes is 4": two and four, where a method or a field stands, or one past the end
     ∷ row ("01ff\n0100\n" ++ main) 4 3
     ∷ row ("01ff\n0100\n0101\n0101\n" ++ main) 4 5

@@ -1,7 +1,8 @@
--- Rules 9 and 10 of the classes in a mask, handler by handler: each takes those that it catches of the rest. Assumes nothing.
+-- Rules 9 and 10 of the classes in a mask, handler by handler in the order of the text: each takes those that it catches of the rest.
+-- Assumes nothing.
 use mathlib.Core.Path.{_≡_, refl, sym, ap, _∙_}
 use mathlib.Core.Bool.{Bool, true, false, false≢true, not, _&&_, _||_}
-use Prim.Native.Nat.{ℕ, zero, _+_, _≤_, _<_}
+use Prim.Native.Nat.{ℕ, _+_, _≤_, _<_}
 use lib.Dec.{eqb, ltb}
 use borrow.Author.Tests.{lt-ltb}
 use Rattle.text.proofs.Cases.{by-test}
@@ -20,7 +21,7 @@ use Rattle.flow.specs.Claim.{registerAt, resultAt, leaving, Claim}
 use Rattle.flow.specs.Flows.{Flows, kept, ifCaught, ifUncaught}
 use Rattle.flow.specs.Rules.{carried, intoHandler, intoLeaving, thrownClasses, leavingClasses, raising}
 use Rattle.slots.specs.Layout.{maskOf}
-use Rattle.sets.proofs.Handlers.{same-classes, passed, Rest, uncaught, is-taken, taken-now, in-rest, rest-uncaught}
+use Rattle.sets.proofs.Handlers.{same-classes, passed, none-yet, Rest, uncaught, is-taken, taken-now, in-rest, rest-uncaught}
 use Rattle.rules.specs.Broken.{noRule, brokenIn, eachIn, raisedRule}
 use Rattle.rules.proofs.Own.{asked-if, raised-by, with-null}
 
@@ -80,17 +81,17 @@ module _ (p : Program) (c : Claim) (m pc : ℕ) (mask : Mask) where
   unhandled : ℕ → Handling → Bool
   unhandled k r = ifUncaught r (has (c (leaving m)) k)
 
-  -- each class that a handler before h catches has its handler, for which rule 9 holds
+  -- each class that a handler from number h on catches has its handler, for which rule 9 holds
   abbrev pub Held : ℕ → Type 0
   Held h = (k : ℕ) → k < classCount p → has mask k ≡ true → passed p m pc h k ≡ false
       → (i : ℕ) × (handlerFor p m pc k ≡ Caught i) × (kept c (intoHandler p m pc k) ≡ true)
 
-  pub held-start : Held zero
-  held-start k l e f = absurd (false≢true (sym f))
+  pub held-start : Held (handlerCount p m)
+  held-start k l e f = absurd (false≢true (sym f ∙ none-yet p m pc k))
 
   -- ---- one handler more
-  module _ (h : ℕ) (rest taken : Mask) (so-far : Rest p m pc mask h rest)
-      (bits : (k : ℕ) → has taken k ≡ has rest k && (ltb k (classCount p) && catches p m pc k h)) (l : h < handlerCount p m) where
+  module _ (h : ℕ) (l : h < handlerCount p m) (rest taken : Mask) (so-far : Rest p m pc mask (h + 1) rest)
+      (bits : (k : ℕ) → has taken k ≡ has rest k && (ltb k (classCount p) && catches p m pc k h)) where
     to : ℕ
     to = handlerTarget p m h
 
@@ -114,11 +115,11 @@ module _ (p : Program) (c : Claim) (m pc : ℕ) (mask : Mask) where
         let (a, b) = both-true (kept c (carried p m pc to)) (subset taken (c (resultAt m to))) (rw t at ok) in
         rw (a, subset-at taken (c (resultAt m to)) b k e))
 
-    pub held-more : goesInto ≡ true → Held h → Held (h + 1)
+    pub held-more : goesInto ≡ true → Held (h + 1) → Held h
     held-more ok held k less e f =
-        by-test (passed p m pc h k)
+        by-test (passed p m pc (h + 1) k)
         (λ before.
-        let (took, handler) = taken-now p m pc mask h rest taken so-far bits l k less e before f in
+        let (took, handler) = taken-now p m pc mask h l rest taken so-far bits k less e before f in
         (h, handler, by-handler k handler ∙ goes k ok took))
         (λ before. held k less e before)
 
@@ -126,7 +127,7 @@ module _ (p : Program) (c : Claim) (m pc : ℕ) (mask : Mask) where
         → raisedRule p c m pc mask ≡ 9
     unfolding raisedRule
     fails k e f =
-        let is = is-taken p m pc mask h rest taken so-far bits l k e in
+        let is = is-taken p m pc mask h l rest taken so-far bits k e in
         let broken : kept c (intoHandler p m pc k) ≡ false = by-handler k (is .handler) ∙ f in
         rw
         (every-not (classCount p) (λ j. not (has mask j) || kept c (intoHandler p m pc j)) k (is .within)
@@ -146,13 +147,13 @@ module _ (p : Program) (c : Claim) (m pc : ℕ) (mask : Mask) where
         fails k e (ap (λ (b : Bool). b && has (c (resultAt m to)) k) t))
 
   -- ---- all handlers
-  module _ (rest : Mask) (left : Rest p m pc mask (handlerCount p m) rest) (held : Held (handlerCount p m)) where
+  module _ (rest : Mask) (left : Rest p m pc mask 0 rest) (held : Held 0) where
     all-handled : eachIn p mask (λ k. kept c (intoHandler p m pc k)) ≡ true
     unfolding handled
     all-handled =
         every-all (classCount p) (λ k. not (has mask k) || kept c (intoHandler p m pc k))
         (λ k l. if-true (has mask k) (kept c (intoHandler p m pc k))
-        (λ e. by-test (passed p m pc (handlerCount p m) k)
+        (λ e. by-test (passed p m pc 0 k)
         (λ t. ap (handled k) (uncaught p m pc k t))
         (λ t. held k l e t .2)))
 
@@ -162,7 +163,7 @@ module _ (p : Program) (c : Claim) (m pc : ℕ) (mask : Mask) where
         same-test (subset rest (c (leaving m))) (eachIn p mask (λ k. kept c (intoLeaving p m pc k)))
         (λ s. every-all (classCount p) (λ k. not (has mask k) || kept c (intoLeaving p m pc k))
         (λ k l. if-true (has mask k) (kept c (intoLeaving p m pc k))
-        (λ e. by-test (passed p m pc (handlerCount p m) k)
+        (λ e. by-test (passed p m pc 0 k)
         (λ t.
         ap (unhandled k) (uncaught p m pc k t)
         ∙ subset-at rest (c (leaving m)) s k (in-rest p m pc mask rest left k l e t))

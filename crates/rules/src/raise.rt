@@ -31,7 +31,8 @@ fn goes_into(t: &[u64; 768], w: &[u64; 9712], m: usize, pc: usize, mask: Mask, t
     }
 }
 
-// The first broken of rules 9 and 10, of the classes in a mask: handler by handler, each takes those that it catches of the rest.
+// The first broken of rules 9 and 10, of the classes in a mask: handler by handler in the order of the text, which is by falling number,
+// each takes those that it catches of the rest.
 pub fn raised(
     t: &[u64; 768],
     w: &[u64; 9712],
@@ -43,16 +44,15 @@ pub fn raised(
     requires { ⌜ now s ≡ setsOf (programIn (now t)) ⌝ }
     ensures value { λ r. ⌜ r ≡ raisedRule (programIn (now (t .entry))) (claimIn (now (w .entry))) m pc mask ⌝ }
 {
-    let n = program::handler_count(t, m);
     let mut rest = mask.common(sets::classes(s));
-    let mut h: usize = 0;
-    while h < n {
+    let mut h = program::handler_count(t, m);
+    while h > 0 {
+        h -= 1;
         let taken = sets::caught(t, s, m, pc, rest, h);
         if !goes_into(t, w, m, pc, taken, program::handler_target(t, m, h)) {
             return 9;
         }
         rest = rest.without(taken);
-        h += 1;
     }
     first(rest.subset(slots::leaving(w, m)), 10, NO_RULE)
 }

@@ -6,7 +6,7 @@ use Prim.Native.Nat.{ℕ, suc, _+_, _*_}
 use lib.Dec.{eqb·zero-suc}
 use Rattle.search.specs.declared.Callee.the-variants.{Found, Missing}
 use Rattle.search.specs.declared.Handling.the-variants.{Caught, Uncaught}
-use Rattle.program.specs.Program.{Method, Program}
+use Rattle.program.specs.Program.{Method, Program, handlerAt, handlerFrom, handlerClass}
 use Rattle.search.specs.Search.{belowIn, below, hasField, answers, methodIn, calleeIn, virtualCallee, catches, handlerFor}
 
 -- a method of class c, name 7, with the kind k, one register and a arguments
@@ -17,7 +17,7 @@ handler : ℕ → ℕ → ℕ → ℕ → ℕ
 handler from to target class = ((from * 256 + to) * 256 + target) * 256 + class
 
 -- class 1 redefines the method of class 0 with another argument count, and has a static one with the same. Method 0 has three
--- handlers: at 2 to 5 for class 2, at 0 to 9 for class 1, at 0 to 9 for class 0
+-- handlers, in the order of the text numbers 2, 1 and 0: at 2 to 5 for class 2, at 0 to 9 for class 1, at 0 to 9 for class 0
 example : Program
 example =
     record {
@@ -75,12 +75,25 @@ never-downward : virtualCallee example 0 7 2 ≡ Missing
 unfolding example method calleeIn methodIn answers
 never-downward = refl
 
--- ---- handler search: the first of those that fit
-first-of-three : handlerFor example 0 3 2 ≡ Caught 0
+-- ---- handlers by number: 0 is the last line, and the last number the first; there is no number 3
+last-line : handlerClass example 0 0 ≡ 0
+unfolding example method handler
+last-line = refl
+
+first-line : handlerFrom example 0 2 ≡ 2
+unfolding example method handler
+first-line = refl
+
+no-line : handlerAt example 0 3 ≡ 0
+unfolding example method handler
+no-line = refl
+
+-- ---- handler search: the highest number of those that fit, which is the first line
+first-of-three : handlerFor example 0 3 2 ≡ Caught 2
 unfolding example method handler handlerFor catches belowIn
 first-of-three = refl
 
--- address 5 is the end of the first, which it does not cover
+-- address 5 is the end of the first line, which it does not cover
 past-its-end : handlerFor example 0 5 2 ≡ Caught 1
 unfolding example method handler handlerFor catches belowIn
 past-its-end = refl
@@ -91,7 +104,7 @@ unfolding example method handler handlerFor catches belowIn
 before-its-start = refl
 
 -- class 0 is below no class but itself
-class-above : handlerFor example 0 3 0 ≡ Caught 2
+class-above : handlerFor example 0 3 0 ≡ Caught 0
 unfolding example method handler handlerFor catches belowIn
 class-above = refl
 

@@ -1,4 +1,5 @@
 pub mod Examples
+pub mod FirstLine
 pub mod Numbers
 pub mod Searches
 pub mod Upward

@@ -1,14 +1,17 @@
 -- Laws of the searches, one for each way that a search goes. Assumes nothing.
-use mathlib.Core.Path.{_≡_, ap}
+use mathlib.Core.Path.{_≡_, refl, ap}
 use mathlib.Core.Bool.{true, false}
-use Prim.Native.Nat.{ℕ, _≤_, _<_}
+use mathlib.Core.Option.{Option, none, some}
+use Prim.Native.Nat.{ℕ, suc, _≤_, _<_}
+use native.Mathlib.Omega.{arith}
 use lib.Dec.{eqb}
 use borrow.Author.Tests.{lt-ltb, le-ltb, le-leb, lt-leb, eq-eqb, ne-eqb}
 use Rattle.search.specs.declared.Callee.the-variants.{Found, Missing}
 use Rattle.search.specs.declared.Handling.the-variants.{Caught, Uncaught}
 use Rattle.program.specs.Program.{Program, fieldCount, fieldClass, methodCount, methodClass, methodName, methodKind, arguments, handlerCount, handlerFrom, handlerTo, handlerClass}
 use Rattle.search.specs.Search.{below, hasField, answers, calleeOf, methodIn, catches, handlingOf, handlerFor}
-use Rattle.program.proofs.Lists.{first-stop, first-none}
+use Rattle.program.specs.Lists.{last}
+use Rattle.program.proofs.Lists.{first-stop, first-none, last-stop, last-none, Last, last-some}
 
 module _ (p : Program) where
   module _ (c f : ℕ) where
@@ -62,10 +65,30 @@ module _ (p : Program) where
     class-decides l k = rw (le-leb (handlerFrom p m h) pc l, lt-ltb pc (handlerTo p m h) k)
 
   module _ (m pc c : ℕ) where
-    pub handler-found : (i : ℕ) → i < handlerCount p m → ((k : ℕ) → k < i → catches p m pc c k ≡ false) → catches p m pc c i ≡ true → handlerFor p m pc c ≡ Caught i
+    -- one number more is asked, and one that fits is the latest
+    pub handler-fits : (h : ℕ) → catches p m pc c h ≡ true → handlingOf (last (suc h) (catches p m pc c)) ≡ Caught h
+    handler-fits h e = rw e
+
+    pub handler-passed : (h : ℕ) → catches p m pc c h ≡ false → last (suc h) (catches p m pc c) ≡ last h (catches p m pc c)
+    handler-passed h e = rw e
+
+    pub handler-found : (i : ℕ) → i < handlerCount p m → ((k : ℕ) → i < k → k < handlerCount p m → catches p m pc c k ≡ false)
+        → catches p m pc c i ≡ true → handlerFor p m pc c ≡ Caught i
     unfolding handlerFor
-    handler-found i l before e = ap handlingOf (first-stop (handlerCount p m) (catches p m pc c) i l before e)
+    handler-found i l after e = ap handlingOf (last-stop (handlerCount p m) (catches p m pc c) i l after e)
 
     pub handler-missing : ((k : ℕ) → k < handlerCount p m → catches p m pc c k ≡ false) → handlerFor p m pc c ≡ Uncaught
     unfolding handlerFor
-    handler-missing before = ap handlingOf (first-none (handlerCount p m) (catches p m pc c) before)
+    handler-missing fails = ap handlingOf (last-none (handlerCount p m) (catches p m pc c) fails)
+
+    -- "the highest number that fits": one that is answered fits, and no higher one does
+    pub handler-highest : (h : ℕ) → handlerFor p m pc c ≡ Caught h → Last (handlerCount p m) (catches p m pc c) h
+    unfolding handlerFor
+    handler-highest h e = by (last (handlerCount p m) (catches p m pc c)) refl e
+      where
+        by : (r : Option ℕ) → last (handlerCount p m) (catches p m pc c) ≡ r → handlingOf r ≡ Caught h
+            → Last (handlerCount p m) (catches p m pc c) h
+        by none q f = let z : _≡_ {A = ℕ} 0 1 = cc in absurd (omega arith)
+        by (some i) q f =
+            let same : i ≡ h = cc in
+            rw (← same) (last-some (handlerCount p m) (catches p m pc c) i q)

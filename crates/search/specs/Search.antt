@@ -9,7 +9,7 @@ use Rattle.search.specs.declared.Callee.{Callee}
 use Rattle.search.specs.declared.Callee.the-variants.{Found, Missing}
 use Rattle.search.specs.declared.Handling.{Handling}
 use Rattle.search.specs.declared.Handling.the-variants.{Caught, Uncaught}
-use Rattle.program.specs.Lists.{first}
+use Rattle.program.specs.Lists.{first, last}
 use Rattle.program.specs.Program.{Program, superclass, fieldCount, fieldClass, methodCount, methodClass, methodName, methodKind, arguments, handlerCount, handlerFrom, handlerTo, handlerClass}
 
 -- class c is class top or below it, where n steps upward are enough. A superclass number that does not fall ends the way:
@@ -64,6 +64,7 @@ abbrev pub handlingOf : Option ℕ → Handling
 handlingOf none = Uncaught
 handlingOf (some h) = Caught h
 
--- "The first that fits is taken": the handler of method m at address pc for an exception of class c
+-- document 02, note 3: "the search to go by rising number. It answers the highest number that fits .. and none just when none
+-- fits": the handler of method m at address pc for an exception of class c
 unfoldable pub handlerFor : Program → ℕ → ℕ → ℕ → Handling
-handlerFor p m pc c = handlingOf (first (handlerCount p m) (catches p m pc c))
+handlerFor p m pc c = handlingOf (last (handlerCount p m) (catches p m pc c))

@@ -1,7 +1,6 @@
 // Searches over a program in tables: superclass test, fields of a class, virtual search, handler search. The stepper uses them all; the
 // claim's reader and the checker use `has_field` and `method_in`, and go by sets of classes else. Every function takes any words.
 ghost use mathlib.Core.Path.{_≡_};
-ghost use Prim.Native.Nat.{ℕ};
 ghost use Rattle.program.specs.Tables.{programIn};
 ghost use Rattle.search.specs.Search.{below, hasField, methodIn, virtualCallee, answers, catches, handlerFor};
 ghost use Rattle.search.specs.Number.{calleeNumber};
@@ -12,7 +11,7 @@ pub enum Callee {
     Missing,
 }
 
-// What a handler search finds: the handler's number in its method, or none.
+// What a handler search finds: the handler's number in its method, 0 for the last in the text, or none.
 pub enum Handling {
     Caught(usize),
     Uncaught,
@@ -114,18 +113,19 @@ fn catches(t: &[u64; 768], m: usize, pc: usize, c: usize, h: usize) -> bool
     }
 }
 
-// The handler of method m at an address for an exception of class c: the first that fits.
+// The handler of method m at an address for an exception of class c: by rising number, the highest that fits.
 pub fn handler_for(t: &[u64; 768], m: usize, pc: usize, c: usize) -> Handling
     ensures value { λ r. ⌜ r ≡ handlerFor (programIn (now (t .entry))) m pc c ⌝ }
 {
     let n = program::handler_count(t, m);
+    let mut found = Handling::Uncaught;
     let mut left = n;
     while left > 0 {
         let h = n - left;
         if catches(t, m, pc, c, h) {
-            return Handling::Caught(h);
+            found = Handling::Caught(h);
         }
         left -= 1;
     }
-    Handling::Uncaught
+    found
 }

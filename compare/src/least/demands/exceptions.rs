@@ -42,18 +42,27 @@ impl Asking<'_> {
 
     /// Rules 9 and 10 for one class.
     pub(super) fn raise(&mut self, class: u8) {
-        let handlers = &self.program.methods[self.method].handlers;
-        let taken = handlers.iter().find(|handler| {
-            (usize::from(handler.from)..usize::from(handler.to)).contains(&self.address)
-                && is_below(self.program, class, handler.class)
-        });
-        let Some(handler) = taken else {
+        let Some(target) = self.target(class) else {
             return self.ask(10, Place::Leaving(self.method), 1 << class);
         };
-        let target = usize::from(handler.target);
         for register in 0..self.result() {
             self.ask(9, self.at(target, register), self.row[register]);
         }
         self.ask(9, self.at(target, self.result()), 1 << class);
+    }
+
+    /// The target of the handler that takes the class: of those that fit, the
+    /// one with the highest number.
+    fn target(&self, class: u8) -> Option<usize> {
+        let method = &self.program.methods[self.method];
+        let mut target = None;
+        for number in 0..method.handlers.len() {
+            let handler = method.handler(number);
+            let range = usize::from(handler.from)..usize::from(handler.to);
+            if range.contains(&self.address) && is_below(self.program, class, handler.class) {
+                target = Some(usize::from(handler.target));
+            }
+        }
+        target
     }
 }

@@ -2,7 +2,7 @@
 
 use super::super::sites::CALLEES;
 use super::{Site, Slots, Solver};
-use crate::checker::sets::elements;
+use crate::checker::sets::{elements, falling_elements};
 
 impl Solver<'_> {
     /// Every call of a method is to be visited.
@@ -61,17 +61,18 @@ impl Solver<'_> {
             return;
         }
         self.seen[number].raised |= new;
-        let handlers = &self.program.methods[usize::from(site.method)].handlers;
-        for place in elements(site.handlers.into()) {
-            let caught = new & self.sets.below[usize::from(handlers[place].class)];
+        let method = &self.program.methods[usize::from(site.method)];
+        // Of the handlers that fit a class the highest number takes it.
+        for handler in falling_elements(site.handlers.into()) {
+            let caught = new & self.sets.below[usize::from(method.handler(handler).class)];
             if caught == 0 {
                 continue;
             }
             new &= !caught;
-            let target = self.handler_target(site, place);
+            let target = self.handler_target(site, handler);
             self.grow(target, usize::from(site.result), caught);
-            if seen.taking >> place & 1 == 0 {
-                self.seen[number].taking |= 1 << place;
+            if seen.taking >> handler & 1 == 0 {
+                self.seen[number].taking |= 1 << handler;
                 self.flow(site, site.registers(), target);
             }
         }
@@ -82,10 +83,10 @@ impl Solver<'_> {
         }
     }
 
-    /// The site that a handler goes to.
-    pub(super) fn handler_target(&self, site: Site, place: usize) -> usize {
+    /// The site that the handler of this number goes to.
+    pub(super) fn handler_target(&self, site: Site, handler: usize) -> usize {
         let method = usize::from(site.method);
-        let target = self.program.methods[method].handlers[place].target;
+        let target = self.program.methods[method].handler(handler).target;
         self.sites.entries[method] + usize::from(target)
     }
 }

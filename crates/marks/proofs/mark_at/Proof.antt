@@ -37,6 +37,12 @@ value-mark-requires-3 c κs = tt
 enum-told-5 : tie.Need-enum-told-5
 enum-told-5 c = c .match .keys5
 
+handler-count-requires : tie.Need-handler-count-requires
+handler-count-requires c κs = tt
+
+from-last-requires : tie.Need-from-last-requires
+from-last-requires c κs = tt
+
 handler-fits-requires : tie.Need-handler-fits-requires
 handler-fits-requires c κs = tt
 
@@ -69,7 +75,17 @@ returns-4 c = rw (c .before .before .enum-told4 .given .1, c .value-mark3 .ensur
 
 returns-5 : tie.Need-returns-5
 unfolding valueMark
-returns-5 c = rw (c .before .before .enum-told5 .given .1, c .value-mark4 .ensures, c .before .handler-fits .ensures)
+returns-5 c =
+    let f = c .before in
+    let l = f .before in
+    let n = l .before in
+    rw (
+      n .before .enum-told5 .given .1,
+      c .value-mark4 .ensures,
+      f .handler-fits .ensures,
+      l .from-last .ensures,
+      n .handler-count .ensures,
+    )
 
 returns-6 : tie.Need-returns-6
 returns-6 c = rw (c .before .enum-told6 .given .1, c .instruction-mark .ensures)
@@ -92,6 +108,8 @@ mark-at-spec =
     method-fits-requires
     value-mark-requires-3
     enum-told-5
+    handler-count-requires
+    from-last-requires
     handler-fits-requires
     value-mark-requires-4
     enum-told-6

@@ -1,44 +1,38 @@
--- `search::handler_for` meets its contract. The loop's invariant: no handler before the next one fits. The measure is how many
--- are left. Assumes nothing.
-use mathlib.Core.Path.{_≡_, sym}
-use mathlib.Core.Bool.{false}
-use Prim.Native.Nat.{ℕ, _≤_, _<_, _-_}
+-- `search::handler_for` meets its contract. The loop's invariant: found is the highest number so far that fits. The measure is how
+-- many are left. Assumes nothing.
+use mathlib.Core.Path.{_≡_, sym, ap, _∙_}
+use mathlib.Core.Logic.{⊎-elim}
+use Prim.Native.Nat.{ℕ, suc, _≤_, _-_}
 use native.Mathlib.Omega.{arith}
-use borrow.Author.Count.{below-more}
+use Rattle.program.specs.Lists.{last}
 use Rattle.program.specs.Program.{handlerCount}
-use Rattle.search.specs.Search.{catches}
 use Rattle.program.specs.Tables.{programIn}
-use Rattle.search.proofs.Searches.{handler-found, handler-missing}
+use Rattle.search.specs.Search.{catches, handlingOf, handlerFor}
+use Rattle.search.proofs.Searches.{handler-fits, handler-passed}
 use Rattle.search.proofs.handler_for.Statement.{statement}
 use Rattle.search.proofs.handler_for.Tie as tie
 
 abbrev Inv-loop : tie.InvT-loop
-Inv-loop t m pc c n left₀ left =
-    (left ≤ n) × ((k : ℕ) → k < n - left → catches (programIn t) m pc c k ≡ false)
+Inv-loop t m pc c n found₀ left₀ found left =
+    (left ≤ n) × (found ≡ handlingOf (last (n - left) (catches (programIn t) m pc c)))
 
 abbrev μ-loop : tie.MeasureT-loop
-μ-loop t m pc c n left₀ left = left
+μ-loop t m pc c n found₀ left₀ found left = left
 
 handler-count-requires : tie.Need-handler-count-requires Inv-loop μ-loop
 handler-count-requires c κs = tt
 
 loop-holds : tie.Need-loop-holds Inv-loop μ-loop
-loop-holds c = (omega arith, λ k l. absurd (omega arith))
+loop-holds c =
+    let a = c .before .args in
+    let none : c .handler-count .result - c .handler-count .result ≡ 0 = omega arith in
+    (omega arith, sym (ap (λ (k : ℕ). handlingOf (last k (catches (programIn (a .t .now)) (a .m) (a .pc) (a .c)))) none))
 
 sub-h : tie.Need-sub-h Inv-loop μ-loop
 sub-h c = omega arith
 
 catches-requires : tie.Need-catches-requires Inv-loop μ-loop
 catches-requires c κs = tt
-
-returns : tie.Need-returns Inv-loop μ-loop
-returns c =
-    let b = c .before .before .before in
-    let a = b .before .before .args in
-    let p = programIn (a .t .now) in
-    let n = b .before .handler-count .result in
-    let l : n - b .loop .left < handlerCount p (a .m) = omega arith in
-    sym (handler-found p (a .m) (a .pc) (a .c) (n - b .loop .left) l (b .loop .inv .1) (rw (c .before .catches .ensures) at (c .if1 .taken)))
 
 sub-left : tie.Need-sub-left Inv-loop μ-loop
 sub-left c = omega arith
@@ -47,17 +41,29 @@ loop-less : tie.Need-loop-less Inv-loop μ-loop
 loop-less c = omega arith
 
 loop-again : tie.Need-loop-again Inv-loop μ-loop
-loop-again c = (
-  omega arith,
-  λ k l. below-more _ _ (c .before .before .before .loop .inv .1) (rw (c .before .catches .ensures) at (c .if1 .left)) k (omega arith),
-)
+loop-again c =
+    let x = c .before .catches in
+    let b = c .before .before .before in
+    let a = b .before .before .args in
+    let p = programIn (a .t .now) in
+    let n = b .before .handler-count .result in
+    let h = n - b .loop .left in
+    let highest : c .if1 .found ≡ handlingOf (last (suc h) (catches p (a .m) (a .pc) (a .c))) =
+    ⊎-elim
+    (λ y. y .1 ∙ sym (handler-fits p (a .m) (a .pc) (a .c) h (rw (x .ensures) at (y .0 .taken))))
+    (λ y. y .1 ∙ b .loop .inv .1 ∙ sym (ap handlingOf (handler-passed p (a .m) (a .pc) (a .c) h (rw (x .ensures) at (y .0 .left)))))
+    (c .if1 .came) in
+    let more : suc h ≡ n - (b .loop .left - 1) = omega arith in
+    (omega arith, rw (← more) highest)
 
-returns-2 : tie.Need-returns-2 Inv-loop μ-loop
-returns-2 c =
+returns : tie.Need-returns Inv-loop μ-loop
+unfolding handlerFor
+returns c =
     let b = c .before in
     let a = b .before .before .args in
     let p = programIn (a .t .now) in
-    sym (handler-missing p (a .m) (a .pc) (a .c) (λ k h. b .loop .inv .1 k (omega arith)))
+    let all : b .before .handler-count .result - b .loop .left ≡ handlerCount p (a .m) = omega (arith, b .before .handler-count .ensures) in
+    b .loop .inv .1 ∙ ap (λ (k : ℕ). handlingOf (last k (catches p (a .m) (a .pc) (a .c)))) all
 
 pub handler-for-spec : {M : Type 1} → statement M
 handler-for-spec =
@@ -69,8 +75,7 @@ handler-for-spec =
     loop-holds
     sub-h
     catches-requires
-    returns
     sub-left
     loop-less
     loop-again
-    returns-2)
+    returns)

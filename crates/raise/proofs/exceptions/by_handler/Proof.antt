@@ -1,7 +1,7 @@
--- `raise::exceptions::by_handler` meets its contract. The loop's invariant: the rest is what the handlers before the next one do not catch,
--- and rule 9 is met for what they do. Assumes nothing.
+-- `raise::exceptions::by_handler` meets its contract. The loop's invariant: the rest is what the handlers from number h on do not catch,
+-- and rule 9 is met for what they do. The measure is h. Assumes nothing.
 use mathlib.Core.Path.{_≡_}
-use Prim.Native.Nat.{_-_, _≤_, _<_}
+use Prim.Native.Nat.{_+_, _-_, _≤_, _<_}
 use native.Mathlib.Omega.{arith}
 use Rattle.program.specs.Program.{methodCount, handlerCount}
 use Rattle.program.specs.Tables.{programIn}
@@ -16,17 +16,14 @@ use Rattle.raise.proofs.exceptions.by_handler.Statement.{statement}
 use Rattle.raise.proofs.exceptions.by_handler.Tie as tie
 
 abbrev Inv-loop : tie.InvT-loop
-Inv-loop t w₀ s m pc n rest₀ new₀ h₀ w rest new h =
-    (h ≤ n)
+Inv-loop t w₀ s m pc rest₀ new₀ h₀ w rest new h =
+    (h ≤ handlerCount (programIn t) m)
     × (s ≡ setsOf (programIn t)
     → Rest (programIn t) m pc rest₀ h rest
     × (Formed (programIn t) → m < methodCount (programIn t) → Partial (programIn t) m pc rest₀ h (claimIn w₀) (claimIn w)))
 
 abbrev μ-loop : tie.MeasureT-loop
-μ-loop t w₀ s m pc n rest₀ new₀ h₀ w rest new h = n - h
-
-handler-count-requires : tie.Need-handler-count-requires Inv-loop μ-loop
-handler-count-requires c κs = tt
+μ-loop t w₀ s m pc rest₀ new₀ h₀ w rest new h = h
 
 classes-requires : tie.Need-classes-requires Inv-loop μ-loop
 classes-requires c κs = tt
@@ -34,19 +31,27 @@ classes-requires c κs = tt
 common-requires : tie.Need-common-requires Inv-loop μ-loop
 common-requires c κs = tt
 
+handler-count-requires : tie.Need-handler-count-requires Inv-loop μ-loop
+handler-count-requires c κs = tt
+
 loop-holds : tie.Need-loop-holds Inv-loop μ-loop
 loop-holds c =
-    let classes = c .before .classes in
+    let common = c .before .common in
+    let classes = c .before .before .classes in
     let a = c .before .before .before .args in
-    let p = programIn (a .t .now) in (
+    let p = programIn (a .t .now) in
+    rw (c .handler-count .ensures) (
       omega arith,
       λ made. (
-        rest-start p (a .m) (a .pc) (c .common .result)
-            (only-classes p (a .mask) (c .common .result) (classes .result) (c .common .ensures)
+        rest-start p (a .m) (a .pc) (common .result)
+            (only-classes p (a .mask) (common .result) (classes .result) (common .ensures)
             (all-classes (a .t .now) (a .s .now) (classes .result) (classes .ensures) made)),
-        λ formed lm. partial-start p (a .m) (a .pc) (c .common .result) (claimIn (a .w .now)),
+        λ formed lm. partial-start p (a .m) (a .pc) (common .result) (claimIn (a .w .now)),
       ),
     )
+
+sub-h : tie.Need-sub-h Inv-loop μ-loop
+sub-h c = omega arith
 
 caught-requires : tie.Need-caught-requires Inv-loop μ-loop
 caught-requires c κs = tt
@@ -60,32 +65,31 @@ take-into-requires c κs = tt
 without-requires : tie.Need-without-requires Inv-loop μ-loop
 without-requires c κs = tt
 
-add-h : tie.Need-add-h Inv-loop μ-loop
-add-h c = omega arith
-
 loop-less : tie.Need-loop-less Inv-loop μ-loop
 loop-less c = omega arith
 
 loop-again : tie.Need-loop-again Inv-loop μ-loop
 loop-again c =
     let x = c .before .before .before .before in
-    let b = x .before .before in
-    let n = b .before .before .before in
-    let a = n .before .args in
+    let turn = x .before in
+    let b = turn .before in
+    let r = b .before .before in
+    let a = r .before .before .args in
     let p = programIn (a .t .now) in
-    let rest = b .before .common .result in
-    let h = b .loop .h in (
-      omega arith,
-      λ made. (
-        rest-more p (a .m) (a .pc) rest h (b .loop .rest) (x .caught .result) (b .loop .inv .1 made .0) (x .caught .ensures made)
-            (c .without .result)
-            (c .without .ensures),
-        λ formed lm.
-            let l : h < handlerCount p (a .m) = omega (arith, n .handler-count .ensures) in
-            let into = rw (c .before .before .handler-target .ensures) at (c .before .take-into .ensures) in
-            partial-more p (a .m) (a .pc) rest h l (b .loop .rest) (x .caught .result) (b .loop .inv .1 made .0) (x .caught .ensures made)
-            _ _ _ (b .loop .inv .1 made .1 formed lm) (into formed lm (formed .methods (a .m) lm .target h l)),
-      ),
+    let rest = r .common .result in
+    let h = b .loop .h - 1 in
+    let next : b .loop .h ≡ h + 1 = omega (arith, turn .loop-test) in
+    let l : h < handlerCount p (a .m) = omega (arith, b .loop .inv .0, turn .loop-test) in (
+      omega (arith, b .loop .inv .0),
+      λ made.
+          let (so-far, partly) = rw next at (b .loop .inv .1 made) in (
+            rest-more p (a .m) (a .pc) rest h l (b .loop .rest) (x .caught .result) so-far (x .caught .ensures made) (c .without .result)
+                (c .without .ensures),
+            λ formed lm.
+                let into = rw (c .before .before .handler-target .ensures) at (c .before .take-into .ensures) in
+                partial-more p (a .m) (a .pc) rest h l (b .loop .rest) (x .caught .result) so-far (x .caught .ensures made)
+                _ _ _ (partly formed lm) (into formed lm (formed .methods (a .m) lm .target h l)),
+          ),
     )
 
 join-leaving-requires : tie.Need-join-leaving-requires Inv-loop μ-loop
@@ -96,19 +100,17 @@ mark-requires c κs = tt
 
 returns : tie.Need-returns Inv-loop μ-loop
 returns c made formed lm =
-    let loop = c .before .before .before .before .loop in
-    let earlier = c .before .before .before .before .before in
-    let common = earlier .common in
-    let classes = earlier .before .classes in
-    let handler-count = earlier .before .before .handler-count in
-    let a = earlier .before .before .before .args in
+    let b = c .before .before .before .before in
+    let r = b .before .before in
+    let classes = r .before .classes in
+    let a = r .before .before .args in
     let p = programIn (a .t .now) in
-    let all : loop .h ≡ handlerCount p (a .m) = omega (arith, handler-count .ensures) in
-    for-mask p (a .m) (a .pc) (a .mask) (common .result) (classes .result) (common .ensures)
+    let all : b .loop .h ≡ 0 = omega arith in
+    let (left, partly) = rw all at (b .loop .inv .1 made) in
+    for-mask p (a .m) (a .pc) (a .mask) (r .common .result) (classes .result) (r .common .ensures)
     (all-classes (a .t .now) (a .s .now) (classes .result) (classes .ensures) made)
     _ _
-    (partial-end p (a .m) (a .pc) (common .result) (loop .rest) (rw all at (loop .inv .1 made .0)) _ _ _
-    (rw all at (loop .inv .1 made .1 formed lm))
+    (partial-end p (a .m) (a .pc) (r .common .result) (b .loop .rest) left _ _ _ (partly formed lm)
     (c .before .join-leaving .ensures (own-inside p formed (leaving (a .m)) lm)))
 
 pub by-handler-spec : {M : Type 1} → statement M
@@ -117,15 +119,15 @@ by-handler-spec =
     (tie.spec
     Inv-loop
     μ-loop
-    handler-count-requires
     classes-requires
     common-requires
+    handler-count-requires
     loop-holds
+    sub-h
     caught-requires
     handler-target-requires
     take-into-requires
     without-requires
-    add-h
     loop-less
     loop-again
     join-leaving-requires
