@@ -10,38 +10,24 @@ fn answered(found: Handling) -> u64 {
     }
 }
 
-// One address more: each class.
-fn mix_address(t: &[u64; 768], m: usize, pc: usize, h: u64) -> u64 {
-    let n = program::class_count(t);
-    let mut sum = h;
-    let mut c: usize = 0;
-    while c < n {
-        sum = number::mix(sum, answered(search::handler_for(t, m, pc, c)));
-        c += 1;
+// One place more, of 16 methods, 32 addresses and 60 classes, if the program has it.
+fn mix_place(t: &[u64; 768], i: usize, h: u64) -> u64 {
+    let m = i / 1920;
+    let pc = i / 60 % 32;
+    let c = i % 60;
+    if pc < program::code_length(t, m) && c < program::class_count(t) {
+        return number::mix(h, answered(search::handler_for(t, m, pc, c)));
     }
-    sum
-}
-
-// One method more: each address.
-fn mix_method(t: &[u64; 768], m: usize, h: u64) -> u64 {
-    let n = program::code_length(t, m);
-    let mut sum = h;
-    let mut pc: usize = 0;
-    while pc < n {
-        sum = mix_address(t, m, pc, sum);
-        pc += 1;
-    }
-    sum
+    h
 }
 
 // The checksum of all answers.
 pub fn checksum(t: &[u64; 768]) -> u64 {
-    let n = program::method_count(t);
     let mut sum: u64 = 0;
-    let mut m: usize = 0;
-    while m < n {
-        sum = mix_method(t, m, sum);
-        m += 1;
+    let mut i: usize = 0;
+    while i < 30720 {
+        sum = mix_place(t, i, sum);
+        i += 1;
     }
     sum
 }

@@ -5,22 +5,19 @@ use Rattle.compare_cases.proofs.handlers.checksum.Statement.{statement}
 use Rattle.compare_cases.proofs.handlers.checksum.Tie as tie
 
 abbrev Inv-loop : tie.InvT-loop
-Inv-loop t n sum₀ m₀ sum m = m ≤ n
+Inv-loop t sum₀ i₀ sum i = i ≤ 30720
 
 abbrev μ-loop : tie.MeasureT-loop
-μ-loop t n sum₀ m₀ sum m = n - m
-
-method-count-requires : tie.Need-method-count-requires Inv-loop μ-loop
-method-count-requires c κs = tt
+μ-loop t sum₀ i₀ sum i = 30720 - i
 
 loop-holds : tie.Need-loop-holds Inv-loop μ-loop
 loop-holds c = search needs
 
-mix-method-requires : tie.Need-mix-method-requires Inv-loop μ-loop
-mix-method-requires c κs = tt
+mix-place-requires : tie.Need-mix-place-requires Inv-loop μ-loop
+mix-place-requires c κs = tt
 
-add-m : tie.Need-add-m Inv-loop μ-loop
-add-m c = search needs
+add-i : tie.Need-add-i Inv-loop μ-loop
+add-i c = search needs
 
 loop-less : tie.Need-loop-less Inv-loop μ-loop
 loop-less c = search needs
@@ -34,13 +31,4 @@ returns c = search needs
 pub checksum-spec : {M : Type 1} → statement M
 checksum-spec =
     tie.close
-    (tie.spec
-    Inv-loop
-    μ-loop
-    method-count-requires
-    loop-holds
-    mix-method-requires
-    add-m
-    loop-less
-    loop-again
-    returns)
+    (tie.spec Inv-loop μ-loop loop-holds mix-place-requires add-i loop-less loop-again returns)
