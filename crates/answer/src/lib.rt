@@ -1,5 +1,7 @@
 // Answers as the five words that an export writes, where so many are lent, and the number of each; the number of a fault, which is printed
 // and told too. docs/FORMATS.md says what each word means.
+#![tactic(auto)]
+
 ghost use Rattle.std.specs.Prelude.{◌≡◌, [], ◌∷◌, ℕ, leb, length, set};
 ghost use Rattle.instruction.specs.Word.{pick};
 ghost use Rattle.machine.specs.State.{fault_number};

@@ -1,11 +1,13 @@
 // The arithmetic of signed 32-bit numbers: binary and unary operations, and conditions on two numbers.
+#![tactic(auto)]
+
 ghost use Rattle.std.specs.Prelude.{◌≡◌};
 ghost use Rattle.arithmetic.specs.Arithmetic.{low, wrapped, computed, unary_value, in_order, divides};
 
 use instruction::{Condition, Operation, Unary, bits, number};
 
 // What a binary operation gives: a number, or nothing, where a division by zero has none.
-#[derive(Drop)]
+#[derive(Clone, Copy)]
 pub enum Computed {
     Number(i32),
     ByZero,

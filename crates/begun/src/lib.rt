@@ -1,5 +1,7 @@
 // How the stepper begins on a text, and what it answers in the end. All of it by value but the text and the tables: lent slices
 // are made zero, and the run is made, by the crates above.
+#![tactic(auto)]
+
 ghost use Rattle.std.specs.Prelude.{◌≡◌, min, ◌-◌, replicate};
 ghost use Rattle.reader.specs.Read.{read_program, tables_after};
 ghost use Rattle.bounded.specs.Lent.{enough};
@@ -11,7 +13,7 @@ use turn::{Halt, Status, Tally};
 
 // A refusal's number and line (23: too few are lent; 0: none), how many frames, objects and statics are to be made zero, and
 // the run to be made.
-#[derive(Drop)]
+#[derive(Clone, Copy)]
 pub struct Beginning {
     pub number: u8,
     pub line: usize,

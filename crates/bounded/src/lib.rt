@@ -1,8 +1,10 @@
 // What becomes of a text that is stepped: the answers of the stepper. What they mean are definitions (specs/).
+#![tactic(auto)]
+
 use turn::Halt;
 
 // The object that is pending, if there is one.
-#[derive(Drop)]
+#[derive(Clone, Copy)]
 pub enum Pending {
     Nothing,
     Object(u32),
@@ -10,7 +12,7 @@ pub enum Pending {
 
 // What became of a text: it is refused, memory falls short, or the program ran and stopped, with the steps made, how many
 // frames are open, how many objects are made, and the pending object.
-#[derive(Drop)]
+#[derive(Clone, Copy)]
 pub enum Outcome {
     Refused {
         number: u8,

@@ -1,4 +1,6 @@
 // The call list, written as bytes to the front of lent memory. Past the memory's end nothing is written.
+#![tactic(auto)]
+
 ghost use Rattle.std.specs.Prelude.{◌≡◌, ℕ, ◌+◌, ◌≤◌, ◌<◌, length, set};
 ghost use Rattle.mask.specs.Mask.{has};
 ghost use Rattle.program.specs.Tables.{program_in};

@@ -1,5 +1,7 @@
 // What programs in other languages link: functions on numbers, and on slices of numbers and of structs laid out as in C.
 // docs/FORMATS.md says what each word means.
+#![tactic(auto)]
+
 ghost use Rattle.std.specs.Prelude.{◌≡◌, ℕ, length, take};
 ghost use Rattle.verdict.specs.declared.Verdict.TheVariants.{Accepted};
 ghost use Rattle.verdict.specs.Numbers.{number_of, values_of};

@@ -1,5 +1,7 @@
 // Rules 0 to 3 in code: fields, statics and entries that hold zero, and registers and results that flow on. Every function takes any
 // tables and words: what it answers is said of the program and the claim that stand in them.
+#![tactic(auto)]
+
 ghost use Rattle.std.specs.Prelude.{◌≡◌, ℕ, ◌+◌, ◌-◌, ◌≤◌};
 ghost use Rattle.program.specs.Program.{registers, arguments};
 ghost use Rattle.program.specs.Tables.{program_in};

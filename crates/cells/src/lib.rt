@@ -1,19 +1,21 @@
 // What a caller lends to the stepper: values, frames and objects as small structs. The slices of them are read and written by
 // `store`.
+#![tactic(auto)]
+
 ghost use Rattle.std.specs.Prelude.{◌≡◌};
 ghost use Rattle.cells.specs.Cells.{value_of, zero_value, zero_frame, zero_object};
 ghost use Rattle.cells.specs.Reads.{reference_of, cell_in, object_place};
 
 // A number, or an object: `object` is 0 for a number, else one more than the object's number, and then `number` is 0.
 #[repr(C)]
-#[derive(Drop)]
+#[derive(Clone, Copy)]
 pub struct Value {
     pub object: u32,
     pub number: i32,
 }
 
 #[repr(C)]
-#[derive(Drop)]
+#[derive(Clone, Copy)]
 pub struct Frame {
     pub method: u32,
     pub address: u32,
@@ -22,7 +24,7 @@ pub struct Frame {
 }
 
 #[repr(C)]
-#[derive(Drop)]
+#[derive(Clone, Copy)]
 pub struct Object {
     pub class: u32,
     pub cells: [Value; 16],

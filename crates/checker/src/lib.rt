@@ -1,4 +1,6 @@
 // The checker: whether a claim meets every flow rule of a program. The call list goes to the front of lent memory.
+#![tactic(auto)]
+
 ghost use Rattle.std.specs.Prelude.{◌≡◌, ℕ, length};
 ghost use Rattle.verdict.specs.declared.Verdict.TheVariants.{Accepted};
 ghost use Rattle.verdict.specs.Numbers.{number_of, values_of};

@@ -1,4 +1,6 @@
 // The claim text: a claim's masks into words that the caller lends, or a refusal with its number and line.
+#![tactic(auto)]
+
 pub mod due; // due.rt: the frames due
 mod line; // line.rt: one line
 mod walk; // walk.rt: line after line
@@ -12,7 +14,7 @@ ghost use Rattle.claim.specs.Inside.{answer_of};
 use lines::Cursor;
 
 // What a text turned out to be. A refusal has its line; that of the length has line 0.
-#[derive(Drop)]
+#[derive(Clone, Copy)]
 pub enum Answer {
     Read,
     TooLong,
@@ -23,7 +25,7 @@ pub enum Answer {
 }
 
 // The parts of a claim text, one for each kind of frame.
-#[derive(Drop)]
+#[derive(Clone, Copy)]
 pub enum Part {
     Address,
     Field,
@@ -34,7 +36,7 @@ pub enum Part {
 
 // A frame that is due: its kind, the digits before its masks, how many registers' masks it has before the last one, the last one's
 // place, and the bits that its masks may have.
-#[derive(Drop)]
+#[derive(Clone, Copy)]
 pub struct Frame {
     pub kind: u64,
     pub head: usize,
@@ -44,7 +46,7 @@ pub struct Frame {
 }
 
 // How a walk by line stands: the number of a refusal or 0, and the cursor of the line that it is at.
-#[derive(Drop)]
+#[derive(Clone, Copy)]
 pub struct Status {
     pub number: usize,
     pub place: Cursor,

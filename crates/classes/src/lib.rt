@@ -1,4 +1,6 @@
 // What rules 4 and 5 ask of a field of each class in a set. Every function takes any words and numbers.
+#![tactic(auto)]
+
 ghost use Rattle.std.specs.Prelude.{◌≡◌, ℕ};
 ghost use Rattle.slots.specs.Layout.{claim_in};
 ghost use Rattle.classes.specs.Fields.{flows, flows_of, each_flows, from_fields, into_fields};

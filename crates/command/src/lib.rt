@@ -1,15 +1,17 @@
 // What the words of the tool's command line ask.
+#![tactic(auto)]
+
 ghost use Rattle.std.specs.Prelude.{◌≡◌, ◌+◌, ◌*◌, ◌-◌, min, ◌≤◌};
 ghost use Rattle.command.specs.Command.{same, asks_help, is_digit, count_of, step_for, other_for, command_for};
 
 // How many steps a word asks for, at most 1,000,000, or no number.
-#[derive(Drop)]
+#[derive(Clone, Copy)]
 pub enum Steps {
     Count(u64),
     NoNumber,
 }
 
-#[derive(Drop)]
+#[derive(Clone, Copy)]
 pub enum Command {
     // No word: the two files in the current folder.
     Plain,

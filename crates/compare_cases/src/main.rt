@@ -1,5 +1,7 @@
 // Tries the cases that the second implementation (compare/) wrote into data/: reads texts, then makes runs, checks claims and
 // writes claims, and prints for each record what comes of it. What must be printed, the file `stdout`, is what the second implementation answers.
+#![tactic(auto)]
+
 use record::Next;
 
 mod checks;
@@ -13,7 +15,7 @@ mod texts;
 mod writes;
 
 // What the records of a file are: texts to read, runs to make, claims to check, panels whose claims are written.
-#[derive(Drop)]
+#[derive(Clone, Copy)]
 enum Records {
     Texts,
     Runs,

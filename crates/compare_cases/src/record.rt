@@ -6,7 +6,7 @@ use super::number;
 use libc::STDERR_FILENO;
 
 // What comes next in a file: a text of so many bytes, the end, or what is no record.
-#[derive(Drop)]
+#[derive(Clone, Copy)]
 pub enum Next {
     Text(usize),
     End,

@@ -3,7 +3,7 @@ use super::{lent, number, record};
 use libc::STDOUT_FILENO;
 
 // What a case asks for its text: at most so many steps, in so many words of frames, objects and statics.
-#[derive(Drop)]
+#[derive(Clone, Copy)]
 struct Case {
     steps: u64,
     frames: usize,

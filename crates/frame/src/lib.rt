@@ -1,4 +1,6 @@
 // Frames, their order and their counts.
+#![tactic(auto)]
+
 ghost use Rattle.std.specs.Prelude.{◌≡◌, ℕ, ◌-◌, set};
 ghost use Rattle.instruction.specs.Test.{passes, Holds};
 ghost use Rattle.frame.specs.Frame.{kind_of, digits_of, may_stand, may_end};
@@ -7,7 +9,7 @@ ghost use Rattle.frame.specs.Places.{counted, place_of, stored, step_of, tables_
 use operands::{both, implies};
 
 // The kind of a frame. `Header` is a method's own frame, `Code` an instruction's.
-#[derive(Drop)]
+#[derive(Clone, Copy)]
 pub enum Kind {
     Class,
     Field,
@@ -19,7 +21,7 @@ pub enum Kind {
 }
 
 // The frames of each kind so far; instructions and handlers are those of the last method.
-#[derive(Drop)]
+#[derive(Clone, Copy)]
 pub struct Counts {
     pub classes: usize,
     pub fields: usize,
@@ -30,7 +32,7 @@ pub struct Counts {
 }
 
 // Where a frame's fields go, where its count stands, and the new count.
-#[derive(Drop)]
+#[derive(Clone, Copy)]
 pub struct Place {
     pub word: usize,
     pub count: usize,
@@ -38,7 +40,7 @@ pub struct Place {
 }
 
 // What a frame brings: a refusal's number or 0, and the counts after it.
-#[derive(Drop)]
+#[derive(Clone, Copy)]
 pub struct Step {
     pub number: usize,
     pub counts: Counts,

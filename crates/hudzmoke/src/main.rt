@@ -1,4 +1,6 @@
 // The tool. Its data are the sample of document 01.
+#![tactic(auto)]
+
 fn main() {
     tool::run();
 }

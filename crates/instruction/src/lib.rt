@@ -1,4 +1,6 @@
 // The 21 instructions: an enum, the numbers of its conditions and operations, and what a signed field says.
+#![tactic(auto)]
+
 ghost use Rattle.std.specs.Prelude.{◌≡◌, ◌%◌};
 ghost use Rattle.std.specs.Int.{w32};
 ghost use Rattle.std.proofs.Common.{to_z, of_z};
@@ -8,7 +10,7 @@ mod word; // word.rt: the word that writes an instruction
 
 pub use word::{decode, encode};
 
-#[derive(Drop)]
+#[derive(Clone, Copy)]
 pub enum Condition {
     Eq,
     Ne,
@@ -18,7 +20,7 @@ pub enum Condition {
     Le,
 }
 
-#[derive(Drop)]
+#[derive(Clone, Copy)]
 pub enum Operation {
     Add,
     Sub,
@@ -33,14 +35,14 @@ pub enum Operation {
     Ushr,
 }
 
-#[derive(Drop)]
+#[derive(Clone, Copy)]
 pub enum Unary {
     Neg,
     Not,
 }
 
 // Registers, classes, fields, statics, methods and addresses are named by their numbers.
-#[derive(Drop)]
+#[derive(Clone, Copy)]
 pub enum Instruction {
     Nop,
     Move {

@@ -1,1 +1,2 @@
 // The laws of a state in lent slices (proofs/). No code.
+#![tactic(auto)]

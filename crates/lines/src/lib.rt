@@ -1,6 +1,8 @@
 // A reader of lines: a text, a place in it and the number of the line there. Program reader and claim reader both go through it.
 // The borrow checker covers no function over a struct that holds a slice, so those are thin and proved by hand; `read_line` stands above
 // them with plain parameters, and its callers are covered.
+#![tactic(auto)]
+
 ghost use Rattle.std.specs.Prelude.{◌≡◌, drop};
 ghost use Rattle.text.specs.Hex.{lines_of, line_read_of};
 ghost use Rattle.lines.specs.Cursors.{cursor, past, cursor_of, reader_at, found_at};
@@ -9,7 +11,7 @@ use std::num::wrapping_add_usize;
 use text::LineRead;
 
 // A text, the place in it where the next line begins, and that line's number.
-#[derive(Drop)]
+#[derive(Clone, Copy)]
 pub struct LineReader<'a> {
     pub text: &'a [u8],
     pub at: usize,
@@ -17,14 +19,14 @@ pub struct LineReader<'a> {
 }
 
 // The same without the text.
-#[derive(Drop)]
+#[derive(Clone, Copy)]
 pub struct Cursor {
     pub at: usize,
     pub line: usize,
 }
 
 // What stands at a cursor, and the cursor after it.
-#[derive(Drop)]
+#[derive(Clone, Copy)]
 pub struct Found {
     pub read: LineRead,
     pub next: Cursor,

@@ -1,5 +1,7 @@
 // Document 01's marked cases: one table (specs/Marked.antt) and the theorem that each of its rows holds (proofs/Marked.antt). The one
 // function calls the checker, so that what proofs/Sample.antt says of `Promised` is said of the checker's own promise.
+#![tactic(auto)]
+
 ghost use Rattle.checker.specs.Coverage.{Promised};
 
 use verdict::Verdict;

@@ -1,4 +1,6 @@
 // Field values of a program in tables: the first line whose values document 01 does not allow.
+#![tactic(auto)]
+
 ghost use Rattle.std.specs.Prelude.{◌≡◌, ℕ, ◌+◌, ◌≤◌};
 ghost use Rattle.program.specs.Program.{method_count};
 ghost use Rattle.program.specs.Tables.{program_in};
@@ -8,7 +10,7 @@ ghost use Rattle.marks.specs.Marks.{marks, marks_in, method_marks, mark_at, line
 use frame::Kind;
 
 // Where a walk stopped: a refusal's number and line, or 0 and the line after the last.
-#[derive(Drop)]
+#[derive(Clone, Copy)]
 pub struct Stop {
     pub number: usize,
     pub line: usize,

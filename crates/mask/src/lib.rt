@@ -1,8 +1,10 @@
 // A mask: 64 bits, a set of what a slot of a claim may hold.
+#![tactic(auto)]
+
 ghost use Rattle.std.specs.Prelude.{◌≡◌, not, ◌&&◌, ◌||◌, ℕ, eqb, ltb};
 ghost use Rattle.mask.specs.Mask.{has, subset, has_number};
 
-#[derive(Drop)]
+#[derive(Clone, Copy)]
 pub struct Mask {
     pub bits: u64,
 }

@@ -1,5 +1,7 @@
 // Words of a state in lent memory: the few functions that read and write them. Every function takes any words and any numbers;
 // past the end a read is 0 and a write does nothing.
+#![tactic(auto)]
+
 ghost use Rattle.std.specs.Prelude.{◌≡◌, get_or, set};
 ghost use Rattle.memory.specs.Memory.{value_word, value_in};
 ghost use Rattle.memory.specs.Writes.{frame_place};
@@ -7,7 +9,7 @@ ghost use Rattle.memory.specs.Writes.{frame_place};
 use machine::Value;
 
 // Where a frame is in the program.
-#[derive(Drop)]
+#[derive(Clone, Copy)]
 pub struct Place {
     pub method: usize,
     pub address: usize,

@@ -1,4 +1,6 @@
 // The 256 opcodes: the generalized instruction of each, as source document 004 lists them, and its length in units.
+#![tactic(auto)]
+
 ghost use Rattle.std.specs.Prelude.{◌≡◌, ◌≤◌};
 ghost use Rattle.opcodes.specs.Opcodes.{group_of, group_number, length_of, Entries};
 

@@ -1,4 +1,6 @@
 // What an instruction names, and whether control goes on past it.
+#![tactic(auto)]
+
 ghost use Rattle.std.specs.Prelude.{◌≡◌, not, ◌&&◌, ◌||◌, ◌+◌, ltb, leb};
 ghost use Rattle.instruction.specs.Test.{passes};
 ghost use Rattle.instruction.specs.Word.{falls_through};
@@ -7,7 +9,7 @@ ghost use Rattle.operands.specs.Names.{named};
 use instruction::Instruction;
 
 // How many of each thing there is to name.
-#[derive(Drop)]
+#[derive(Clone, Copy)]
 pub struct Limits {
     pub registers: u64,
     pub length: u64,

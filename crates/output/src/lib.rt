@@ -1,5 +1,7 @@
 // What a call that writes a text to lent memory answers.
-#[derive(Drop)]
+#![tactic(auto)]
+
+#[derive(Clone, Copy)]
 pub enum Output {
     // So many bytes stand at the front of memory.
     Written(usize),

@@ -1,5 +1,7 @@
 // Bytes, digits and numbers put one after another into a buffer. Every function takes any place of any buffer, puts what goes in,
 // and answers the next place.
+#![tactic(auto)]
+
 mod packed; // packed.rt: digits in words, put eight at a time
 
 ghost use Rattle.std.specs.Prelude.{[], ◌∷◌, ◌≡◌, ◌+◌, ◌<◌, ◌≤◌, length};

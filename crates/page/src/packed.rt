@@ -7,7 +7,7 @@ ghost use Rattle.page.specs.Packed.{bytes_of, digits_in};
 use crate::put_byte;
 
 // The sixteen digits of a number.
-#[derive(Drop)]
+#[derive(Clone, Copy)]
 pub struct Sixteen {
     pub high: u64,
     pub low: u64,

@@ -1,6 +1,8 @@
 // The words of rules, refusals, stops and faults, which stand only here. A line is an entry: a letter (r a rule, n a number of a refusal
 // or a stop, f a fault), two decimal digits, a space, and the words, fewer than 100 bytes. To change words, edit them in their line and
 // set the number of bytes, in the type and in the clause `length`: a check says which it is.
+#![tactic(auto)]
+
 ghost use Rattle.std.specs.Prelude.{◌≡◌, true, length};
 ghost use Rattle.phrases.specs.Complete.{complete};
 

@@ -1,5 +1,7 @@
 // The stepper over plain words: runs a program text for at most n steps, in words that the caller lends. It runs in frames, objects
 // and statics of its own, and then writes them as words.
+#![tactic(auto)]
+
 mod words; // words.rt: what a run left, as words
 
 ghost use Rattle.std.specs.Prelude.{◌≡◌, true, false, length, replicate};
@@ -12,7 +14,7 @@ use bounded::Outcome;
 use cells::{Frame, Object, Value};
 
 // What a run answers and leaves.
-#[derive(Drop)]
+#[derive(Clone, Copy)]
 struct Left {
     outcome: Outcome,
     frames: [Frame; 32],

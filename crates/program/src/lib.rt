@@ -1,5 +1,7 @@
 // A program in tables, and what checker and stepper ask of it. Every function takes any words: what it answers is said of the
 // program that stands in them.
+#![tactic(auto)]
+
 ghost use Rattle.std.specs.Prelude.{◌≡◌, ℕ, ◌+◌, ◌*◌, ◌/◌, ◌%◌, min, length, get_or};
 ghost use Rattle.program.specs.Program.{class_count, field_count, method_count, superclass, field_class, method_at};
 ghost use Rattle.program.specs.Program.{method_class, method_name, method_kind, registers, arguments, code_length};

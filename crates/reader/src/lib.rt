@@ -1,4 +1,6 @@
 // The reader: a program text into tables that the caller lends, or a refusal with its number and line.
+#![tactic(auto)]
+
 ghost use Rattle.std.specs.Prelude.{◌≡◌, ℕ, ◌+◌, ◌≤◌, ◌<◌, length, replicate};
 ghost use Rattle.text.specs.Hex.{lines_of};
 ghost use Rattle.program.specs.Program.{Program, no_program};
@@ -12,7 +14,7 @@ use marks::Stop;
 use text::LineRead;
 
 // What a text turned out to be. A refusal has its line; that of the length has line 0.
-#[derive(Drop)]
+#[derive(Clone, Copy)]
 pub enum Answer {
     Read,
     TooLong,

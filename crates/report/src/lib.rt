@@ -1,4 +1,6 @@
 // The bytes that the tool prints: of a verdict, a fixed word and hexadecimal fields; of a run, why it stopped and its state.
+#![tactic(auto)]
+
 mod run;
 
 ghost use Rattle.std.specs.Prelude.{◌≡◌, List, ◌++◌, ℕ, ◌≤◌, ◌<◌, length, get_or};

@@ -1,4 +1,6 @@
 // What the tool prints for its texts on standard output, and tells on standard error in the words of a table.
+#![tactic(auto)]
+
 mod stepped;
 mod written;
 
@@ -15,7 +17,7 @@ use verdict::Verdict;
 pub use written::of_panel;
 
 // How many bytes are printed and told.
-#[derive(Drop)]
+#[derive(Clone, Copy)]
 pub struct Response {
     pub printed: usize,
     pub told: usize,

@@ -1,4 +1,6 @@
 // The stepper's run, in the lent slices: the steps that stay in a frame, then one that does not, again and again.
+#![tactic(auto)]
+
 ghost use Rattle.std.specs.Prelude.{◌≡◌};
 ghost use Rattle.drive.specs.Models.{done, lent};
 ghost use Rattle.rounds.specs.Rounds.{one_done, stay_done, forth_done, back_done, round_done, run_done};

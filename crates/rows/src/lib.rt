@@ -1,4 +1,6 @@
 // The lines that are printed of a state: frames, objects and statics as they lie in lent memory.
+#![tactic(auto)]
+
 ghost use Rattle.std.specs.Prelude.{◌∷◌, ◌+◌, ◌≤◌, ◌<◌};
 ghost use Rattle.page.specs.Page.{Put};
 ghost use Rattle.program.specs.Tables.{program_in};

@@ -16,7 +16,7 @@ use mask::Mask;
 use operands::both;
 
 // What has come of the callees so far: whether rules 6 and 7 hold, and the classes that leave them.
-#[derive(Drop)]
+#[derive(Clone, Copy)]
 pub struct Callees {
     pub given: bool,
     pub returned: bool,

@@ -1,5 +1,7 @@
 // The flow rules in code: the first broken rule of a claim. One function an instruction or a group of them, one dispatcher. Every public
 // function takes any tables and words: what it answers is said of the program and the claim that stand in them.
+#![tactic(auto)]
+
 ghost use Rattle.std.specs.Prelude.{◌≡◌, ℕ, ◌<◌};
 ghost use Rattle.program.specs.Tables.{program_in};
 ghost use Rattle.flow.specs.Rules.{rules_of, rules_at};
@@ -19,7 +21,7 @@ mod write;
 pub const NO_RULE: usize = 255;
 
 // The first broken rule and its place; NO_RULE and zeros where none is broken.
-#[derive(Drop)]
+#[derive(Clone, Copy)]
 pub struct Broken {
     pub rule: usize,
     pub method: usize,

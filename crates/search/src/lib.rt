@@ -1,19 +1,21 @@
 // Searches over a program in tables: superclass test, fields of a class, virtual search, handler search. The stepper uses them all; the
 // claim's reader and the checker use `has_field` and `method_in`, and go by sets of classes else. Every function takes any words.
+#![tactic(auto)]
+
 ghost use Rattle.std.specs.Prelude.{◌≡◌};
 ghost use Rattle.program.specs.Tables.{program_in};
 ghost use Rattle.search.specs.Search.{below, has_field, method_in, virtual_callee, answers, catches, handler_for};
 ghost use Rattle.search.specs.Number.{callee_number};
 
 // What a virtual search finds: the method, or none.
-#[derive(Drop)]
+#[derive(Clone, Copy)]
 pub enum Callee {
     Found(usize),
     Missing,
 }
 
 // What a handler search finds: the handler's number in its method, 0 for the last in the text, or none.
-#[derive(Drop)]
+#[derive(Clone, Copy)]
 pub enum Handling {
     Caught(usize),
     Uncaught,

@@ -1,5 +1,7 @@
 // Sets of a program's classes, made once a check: of each class those at or below it, of each method those that lead to it. Every
 // function takes any tables and words.
+#![tactic(auto)]
+
 mod dispatch; // dispatch.rt: of each method the classes that lead to it
 
 ghost use Rattle.std.specs.Prelude.{◌≡◌, ◌&&◌, ◌||◌, ℕ, ◌<◌, eqb, ltb, get_or};

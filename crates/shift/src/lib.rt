@@ -1,5 +1,7 @@
 // Steps that do not stay in their frame: what they look at, and what they come to. All of it by value: lent slices are read and
 // written by `turns`.
+#![tactic(auto)]
+
 mod asks; // asks.rt: what is asked of a run
 mod counts; // counts.rt: how far a run has come after a step
 mod effects; // effects.rt: what each effect comes to
@@ -25,7 +27,7 @@ use turn::{Status, Tally};
 pub use unwind::unwind_shift;
 
 // Why no further step can be made, if so: a full store, a full stack, an address outside its method.
-#[derive(Drop)]
+#[derive(Clone, Copy)]
 pub enum Stop {
     No,
     Store,
@@ -34,7 +36,7 @@ pub enum Stop {
 }
 
 // How far a run has come: the steps that may still be made, what of the state is not in lent slices, and what stopped it.
-#[derive(Drop)]
+#[derive(Clone, Copy)]
 pub struct Run {
     pub left: u64,
     pub tally: Tally,
@@ -42,7 +44,7 @@ pub struct Run {
 }
 
 // A run whose top frame is at an address, with the opcode and the word there, and how the instruction before ended.
-#[derive(Drop)]
+#[derive(Clone, Copy)]
 pub struct At {
     pub run: Run,
     pub pc: u8,
@@ -52,7 +54,7 @@ pub struct At {
 }
 
 // A run that stays in frame `top`: the steps that may still be made, the frame's place, how the last instruction ended.
-#[derive(Drop)]
+#[derive(Clone, Copy)]
 pub struct Stay {
     pub left: u64,
     pub top: usize,
@@ -62,7 +64,7 @@ pub struct Stay {
 }
 
 // What is read: frame `top`'s place and a register of it, the address of the frame below; and what stands where there is none.
-#[derive(Drop)]
+#[derive(Clone, Copy)]
 pub struct Look {
     pub top: usize,
     pub first: usize,
@@ -73,7 +75,7 @@ pub struct Look {
 }
 
 // Arguments that are still to be passed: from a register of frame `top` on to a register of the frame above on.
-#[derive(Drop)]
+#[derive(Clone, Copy)]
 pub struct Pass {
     pub from: usize,
     pub to: usize,
@@ -84,7 +86,7 @@ pub struct Pass {
 
 // What is written: a frame that is dropped, the result of a frame, an address, a new object's class, a register, arguments, and
 // the method of a frame that is opened. Places past the end are nowhere.
-#[derive(Drop)]
+#[derive(Clone, Copy)]
 pub struct Shift {
     pub popped: usize,
     pub resumed: usize,

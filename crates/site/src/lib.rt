@@ -1,5 +1,7 @@
 // Instructions that stay in their frame: which values they look at, and what they come to. All of it by value: lent slices are
 // read and written by `work`.
+#![tactic(auto)]
+
 mod effects; // effects.rt: what an instruction decides, and the work of an effect
 mod kinds; // kinds.rt: the work of each kind of instruction
 
@@ -13,7 +15,7 @@ pub use kinds::{
 use machine::Fault;
 
 // Where an instruction stands: frame `top`, its address, its word, its opcode.
-#[derive(Drop)]
+#[derive(Clone, Copy)]
 pub struct Site {
     pub top: usize,
     pub pc: u8,
@@ -23,7 +25,7 @@ pub struct Site {
 
 // How an instruction ends: the frame goes to another address, the instruction is one that does not stay in its frame, a new object of
 // a class is raised, or a fault.
-#[derive(Drop)]
+#[derive(Clone, Copy)]
 pub enum How {
     Went,
     Leaves,
@@ -31,14 +33,14 @@ pub enum How {
     Failed(Fault),
 }
 
-#[derive(Drop)]
+#[derive(Clone, Copy)]
 pub struct Gone {
     pub next: usize,
     pub how: How,
 }
 
 // What is read: two registers, a cell of the first one's object, a static; and what stands where there is none.
-#[derive(Drop)]
+#[derive(Clone, Copy)]
 pub struct Want {
     pub first: usize,
     pub second: usize,
@@ -50,7 +52,7 @@ pub struct Want {
 
 // What is written: a value to a register, to a cell of an object or to a static, and the frame's address. Places past the end are
 // nowhere.
-#[derive(Drop)]
+#[derive(Clone, Copy)]
 pub struct Work {
     pub to: usize,
     pub value: Value,

@@ -1,5 +1,7 @@
 // A claim's masks in words, and the functions that read and write them. Every function takes any words and any numbers: a slot
 // that no program has gives a mask with no bit.
+#![tactic(auto)]
+
 ghost use Rattle.std.specs.Prelude.{◌≡◌, get_or, set};
 ghost use Rattle.flow.specs.Claim.{register_at, result_at, field_of, static_of, returned_by, leaving};
 ghost use Rattle.slots.specs.Layout.{row_of, place_of, mask_at, claim_in};

@@ -1,4 +1,6 @@
 // The stepper: runs a program text for at most n steps, in frames, objects and statics that the caller lends.
+#![tactic(auto)]
+
 ghost use Rattle.std.specs.Prelude.{◌≡◌};
 ghost use Rattle.bounded.specs.Step.{number_of, values_of, stepping_number, stepping_values};
 ghost use Rattle.bounded.specs.Lent.{lending, frames_left, objects_left, statics_left};

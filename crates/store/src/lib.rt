@@ -1,6 +1,8 @@
 // The frames, objects and statics that a caller lends, read and written where they lie: an element's field, a register, a cell,
 // a static, a whole frame. Every function takes any slice and any numbers; past the end a read is what is passed for it and a
 // write does nothing.
+#![tactic(auto)]
+
 ghost use Rattle.std.specs.Prelude.{◌≡◌, map, get_or, set};
 ghost use Rattle.store.specs.Store.{absent_frame, absent_object, method_of, address_of, result_of, registers_of, class_of, cells_of, with_method, with_address, with_result, with_register, with_class, with_cell, filled};
 

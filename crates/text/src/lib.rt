@@ -1,4 +1,6 @@
 // Lines and hexadecimal digits of a text. Program reader and claim reader both go through these; nothing here knows frames.
+#![tactic(auto)]
+
 mod words; // words.rt: eight digits in one word
 
 ghost use Rattle.std.specs.Prelude.{◌≡◌, ◌+◌, ◌-◌, ◌≤◌, min, ltb, length, take, drop};
@@ -7,7 +9,7 @@ ghost use Rattle.text.specs.Run.{digit_run};
 ghost use Rattle.text.specs.Words.{value_of, two_at, four_at, sixteen_at, repeats_at};
 
 // What stands at a place of a text.
-#[derive(Drop)]
+#[derive(Clone, Copy)]
 pub enum LineRead {
     // A whole line, of so many digits, and its end after them.
     Whole(usize),

@@ -2,7 +2,7 @@
 ghost use Rattle.tool.specs.Files.{Filled};
 
 // What came of a file: so many bytes, or a read that failed.
-#[derive(Drop)]
+#[derive(Clone, Copy)]
 pub enum Got {
     Bytes(usize),
     Failed,

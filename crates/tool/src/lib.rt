@@ -1,5 +1,7 @@
 // The tool: what its command line asks, on files and standard output. What is printed and told is decided by `response`; words for
 // people go to the descriptor `told` that the caller names.
+#![tactic(auto)]
+
 mod files;
 
 ghost use Rattle.std.specs.Prelude.{◌≡◌, length};

@@ -1,5 +1,7 @@
 // The tool on words and files of many kinds, one scenario after another: after a line with the words, what it prints and what it tells
 // people. Every rule, refusal, stop and fault that a text can lead to is told (no text leads to 23 or 24).
+#![tactic(auto)]
+
 use libc::STDOUT_FILENO;
 
 // Writes a word after a space, nothing for none.

@@ -1,6 +1,8 @@
 // The transfer functions: the rules at an address, met by joining masks. One function an instruction or a group of them, one
 // dispatcher. What they answer guides the order of work and nothing else: marks of what got new bits, by number 0 to 31 an address of the
 // same method, 32 to 47 the entry of a method, 48 what leaves the method or is returned, 49 a field or a static.
+#![tactic(auto)]
+
 ghost use Rattle.std.specs.Prelude.{◌≡◌, ◌&&◌, ◌<◌, eqb};
 ghost use Rattle.program.specs.Program.{method_count, code_length};
 ghost use Rattle.program.specs.Tables.{program_in};

@@ -11,7 +11,7 @@ use crate::{branches, straight, walk};
 use units::{Branch, Opcode, Plain};
 
 // How the instruction at a start stands: the word of its frame, or refusal 25, 26 or 27.
-#[derive(Drop)]
+#[derive(Clone, Copy)]
 pub enum Checked {
     Word(u64),
     CutShort,

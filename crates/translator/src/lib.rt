@@ -1,4 +1,6 @@
 // The translator: the instruction frames of a method's line of code units, to the front of lent memory.
+#![tactic(auto)]
+
 mod branches; // branches.rt: opcodes with an offset
 mod check; // check.rt: the instruction at a start
 mod put; // put.rt: frames as text
@@ -21,7 +23,7 @@ use output::Output;
 pub use walk::Start;
 
 // How a walk of a text's instructions ended: after so many words, or with a refusal's number and address.
-#[derive(Drop)]
+#[derive(Clone, Copy)]
 pub enum Ending {
     Words(usize),
     Refused(usize, usize),

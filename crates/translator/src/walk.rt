@@ -6,7 +6,7 @@ ghost use Rattle.units.specs.Units.{one_line, units_of, unit_at, length_at};
 ghost use Rattle.translator.specs.Inside.{Digits, known_start, nearest_start, Stands, Sought};
 
 // A start and its address.
-#[derive(Drop)]
+#[derive(Clone, Copy)]
 pub struct Start {
     pub place: usize,
     pub address: usize,

@@ -1,8 +1,10 @@
 // How far a run has come, and why the stepper stops. When it does is a definition (specs/).
+#![tactic(auto)]
+
 use machine::Fault;
 
 // Why the stepper stops: an end of the run, a full store or stack, n steps made, or an address outside its method.
-#[derive(Drop)]
+#[derive(Clone, Copy)]
 pub enum Halt {
     Done,
     Uncaught,
@@ -14,7 +16,7 @@ pub enum Halt {
 }
 
 // How far the run has come.
-#[derive(Drop)]
+#[derive(Clone, Copy)]
 pub enum Status {
     Running,
     Raised(u32),
@@ -24,7 +26,7 @@ pub enum Status {
 }
 
 // What of a state does not lie in lent memory: how many frames are open, how many objects are made, the status.
-#[derive(Drop)]
+#[derive(Clone, Copy)]
 pub struct Tally {
     pub depth: u8,
     pub made: u32,

@@ -1,5 +1,7 @@
 // Steps that do not stay in their frame, done in the lent slices. The functions of one kind of step differ in what it comes to
 // alone: one proof serves them all.
+#![tactic(auto)]
+
 mod dispatch; // dispatch.rt: what a run has come to, by its kind
 
 ghost use Rattle.std.specs.Prelude.{◌≡◌};

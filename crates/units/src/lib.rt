@@ -1,8 +1,10 @@
 // Code units of Android's "Dalvik bytecode": the opcodes that are taken. The translator's code is in translator.
+#![tactic(auto)]
+
 use instruction::{Condition, Operation, Unary};
 
 // An opcode that is taken and has no offset.
-#[derive(Drop)]
+#[derive(Clone, Copy)]
 pub enum Plain {
     Nop,
     Move,
@@ -34,7 +36,7 @@ pub enum Plain {
 }
 
 // An opcode that is taken and has an offset.
-#[derive(Drop)]
+#[derive(Clone, Copy)]
 pub enum Branch {
     Goto,
     Goto16,
@@ -43,7 +45,7 @@ pub enum Branch {
     IfZero { condition: Condition },
 }
 
-#[derive(Drop)]
+#[derive(Clone, Copy)]
 pub enum Opcode {
     Plain(Plain),
     Branch(Branch),

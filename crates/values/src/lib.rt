@@ -1,4 +1,6 @@
 // What each frame's values are asked.
+#![tactic(auto)]
+
 ghost use Rattle.std.specs.Prelude.{◌≡◌, not, ◌&&◌, ◌||◌, ℕ, ◌+◌, eqb, ltb};
 ghost use Rattle.instruction.specs.Test.{passes};
 ghost use Rattle.instruction.specs.Word.{pick};

@@ -1,8 +1,10 @@
 // What the checker answers: the claim is accepted, or the first broken rule and its place, or a refusal.
+#![tactic(auto)]
+
 ghost use Rattle.std.specs.Prelude.{◌≡◌};
 ghost use Rattle.verdict.specs.Numbers.{number_of};
 
-#[derive(Drop)]
+#[derive(Clone, Copy)]
 pub enum Verdict {
     // So many calls stand in the call list.
     Accepted(usize),

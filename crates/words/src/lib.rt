@@ -1,5 +1,7 @@
 // What verdicts and runs are in words, for people: the words are those that a table has for rules, numbers and faults. Any text is
 // a table; a number that it does not have has no words.
+#![tactic(auto)]
+
 ghost use Rattle.std.specs.Prelude.{◌≡◌, ◌≤◌, length, get_or, take, drop};
 ghost use Rattle.page.specs.Page.{Put};
 ghost use Rattle.words.specs.Words.{has_key, after_key, line_by, words_for};

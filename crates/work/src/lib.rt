@@ -1,5 +1,7 @@
 // Instructions that stay in their frame, done in the lent slices. The functions of one instruction differ in what it comes to
 // alone: one proof serves them all.
+#![tactic(auto)]
+
 ghost use Rattle.std.specs.Prelude.{◌≡◌};
 ghost use Rattle.drive.specs.Models.{done, lent};
 ghost use Rattle.work.specs.Work.{binop_done, branch_done, iget_done, iput_done, sget_done, sput_done, class_done, plain_done, leave_done, performed};

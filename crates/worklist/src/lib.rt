@@ -1,5 +1,7 @@
 // The least claim of a program, in words: a worklist of addresses, each visited by its transfer function, until no rule is broken. Marks
 // guide the order of the work; no promise says anything of them. That every rule holds at the end is tested by crate rules.
+#![tactic(auto)]
+
 mod marks; // marks.rt: the addresses that wait, and the readers of slots
 
 ghost use Rattle.std.specs.Prelude.{◌≡◌, ◌<◌};

@@ -1,4 +1,6 @@
 // The claim writer: the text of the least accepted claim of a program, to the front of lent memory.
+#![tactic(auto)]
+
 ghost use Rattle.std.specs.Prelude.{◌≡◌, ◌++◌, ℕ, ◌<◌, ◌≤◌, ◌^◌, length, get_or, take, drop};
 ghost use Rattle.program.specs.Tables.{program_in};
 ghost use Rattle.reader.specs.Formed.{Formed};

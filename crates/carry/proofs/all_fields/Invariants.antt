@@ -1,0 +1,24 @@
+-- `carry::all_fields`: what its loops keep, and what falls.
+use mathlib.Core.Path.{◌≡◌, sym, ◌∙◌}
+use mathlib.Core.Bool.{Bool, true, false}
+use mathlib.Core.List.{List}
+use Prim.Native.Nat.{ℕ, ◌≤◌, ◌<◌, ◌-◌}
+use native.Mathlib.Omega.{arith}
+use borrow.Author.Count.{below_more}
+use borrow.Author.Tests.{not-true, not-false}
+use Rattle.mask.proofs.Laws.{every_all, every_not}
+use Rattle.program.specs.Program.{class_count}
+use Rattle.program.specs.Tables.{program_in}
+use Rattle.flow.specs.Flows.{kept}
+use Rattle.slots.specs.Layout.{claim_in}
+use Rattle.carry.specs.Carried.{class_fields}
+use Rattle.carry.proofs.all_fields.Given as goal
+
+abbrev pub test : List ℕ → List ℕ → ℕ → Bool
+test ts ws k = kept (claim_in ws) (class_fields (program_in ts) k)
+
+abbrev pub invariant-loop-k : goal.invariant-loop-k
+invariant-loop-k l = (l.k ≤ l.n) × ((i : ℕ) → i < l.k → test l.t l.w i ≡ true)
+
+abbrev pub decreases-loop-k : goal.decreases-loop-k
+decreases-loop-k l = l.n - l.k

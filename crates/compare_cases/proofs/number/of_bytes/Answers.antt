@@ -1,0 +1,28 @@
+-- `compare_cases::number::of_bytes` meets its contract. The invariant: what is left says, after n, what all bytes say. Assumes nothing.
+use Rattle.std.proofs.Common.{◌≡◌, ℕ, ◌+◌, ◌-◌, ◌*◌, ◌%◌, ◌<◌, ◌≤◌, List, length, get_or, drop, sym, refl, ◌∙◌, add-one, arith, drop_of_length-le, drop-cons}
+use Rattle.compare_cases.specs.Records.{bytes_from}
+use Rattle.compare_cases.proofs.number.of_bytes.Goals as goal
+
+-- one byte more, and none
+one_more_lem : (bytes : List ℕ) (n i : ℕ) → i < length bytes
+    → bytes_from n (drop i bytes) ≡ bytes_from (n % 72057594037927936 * 256 + get_or bytes i 0) (drop (i + 1) bytes)
+unfolding bytes_from
+one_more_lem bytes n i l = rw (drop-cons bytes i 0 l, add-one i)
+
+at_end : (bytes : List ℕ) (n i : ℕ) → length bytes ≤ i → bytes_from n (drop i bytes) ≡ n
+unfolding bytes_from
+at_end bytes n i l = rw (drop_of_length-le bytes {i = i} l)
+
+pub loop-i-init : goal.loop-i-init
+loop-i-init c = (omega arith, refl)
+
+pub overflow_add-n : goal.overflow_add-n
+overflow_add-n c = omega (arith, c.wide.ensures.1)
+
+pub loop-i-preserved : goal.loop-i-preserved
+loop-i-preserved c =
+    let bytes = c.args.bytes.now in
+    (omega arith, c.loop-i.invariant.1 ∙ one_more_lem bytes c.loop-i.n c.loop-i.i (omega arith) ∙ rw c.wide.ensures.0 refl)
+
+pub returns : goal.returns
+returns c = record { value = sym (c.loop-i.invariant.1 ∙ at_end c.args.bytes.now c.loop-i.n c.loop-i.i (omega arith)) }

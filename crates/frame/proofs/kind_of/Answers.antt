@@ -1,0 +1,32 @@
+-- `frame::kind_of` meets its contract. Assumes nothing.
+use borrow.Author.Tests.{ne_eqb}
+use Rattle.frame.specs.Frame.{kind_of}
+use Rattle.frame.proofs.kind_of.Goals as goal
+
+pub returns-in-1 : goal.returns-in-1
+unfolding kind_of
+returns-in-1 c = record { value = rw c.in-1.is }
+
+pub returns-in-2 : goal.returns-in-2
+unfolding kind_of
+returns-in-2 c = record { value = rw c.in-2.is }
+
+pub returns-in-3 : goal.returns-in-3
+unfolding kind_of
+returns-in-3 c = record { value = rw c.in-3.is }
+
+pub returns-in-4 : goal.returns-in-4
+unfolding kind_of
+returns-in-4 c = record { value = rw c.in-4.is }
+
+pub returns-in-5 : goal.returns-in-5
+unfolding kind_of
+returns-in-5 c = record { value = rw c.in-5.is }
+
+pub returns-in-6 : goal.returns-in-6
+unfolding kind_of
+returns-in-6 c = record { value = rw c.in-6.is }
+
+pub returns-in_default : goal.returns-in_default
+unfolding kind_of
+returns-in_default c = record { value = simp (ne_eqb _ _ c.in_default.in_default-own.rest.0.0.0.0.0.1, ne_eqb _ _ c.in_default.in_default-own.rest.0.0.0.0.1, ne_eqb _ _ c.in_default.in_default-own.rest.0.0.0.1, ne_eqb _ _ c.in_default.in_default-own.rest.0.0.1, ne_eqb _ _ c.in_default.in_default-own.rest.0.1, ne_eqb _ _ c.in_default.in_default-own.rest.1) }

@@ -1,0 +1,10 @@
+-- `plain::words::put_frame` meets its contract. Assumes nothing.
+use Rattle.plain.proofs.Elements.{frame_put}
+use borrow.Author.Rules.{rules}
+use Rattle.plain.proofs.words.put_frame.Goals as goal
+
+pub returns : goal.returns
+returns c = record {
+  memory = frame_put c.args.f c.args.ws.now c.put_word.new.0 c.put_word-2.new.0 c.put_value.new.0 c.put_values.new.0 c.args.at c.value_of.result
+      c.put_word.ensures.memory c.put_word-2.ensures.memory c.put_value.ensures.memory c.value_of.ensures.value c.put_values.ensures.memory;
+}

@@ -1,0 +1,16 @@
+-- `plain::words::put_frames`: what its loops keep, and what falls.
+use mathlib.Core.Path.{◌≡◌, refl, ap, ◌∙◌}
+use Prim.Native.Nat.{ℕ, ◌-◌, ◌*◌, ◌≤◌}
+use native.Mathlib.Omega.{arith}
+use lib.ListN.{length, get_or}
+use Rattle.store.specs.Store.{absent_frame}
+use Rattle.plain.specs.Words.{put, frames_word, frame_word_in}
+use Rattle.plain.proofs.Puts.{length_put}
+use Rattle.plain.proofs.Elements.{one_more_lem, frame_more}
+use Rattle.plain.proofs.words.put_frames.Given as goal
+
+abbrev pub invariant-loop-i : goal.invariant-loop-i
+invariant-loop-i l = (l.i ≤ 32) × (l.ws ≡ put (19 * l.i) (frames_word l.fs) l.initial.ws 0)
+
+abbrev pub decreases-loop-i : goal.decreases-loop-i
+decreases-loop-i l = 32 - l.i

@@ -1,0 +1,18 @@
+-- `raise::masks::from_fields`: what its loops keep, and what falls.
+use mathlib.Core.Path.{◌≡◌, sym, ap, ◌∙◌}
+use Prim.Native.Nat.{ℕ, ◌-◌, ◌≤◌}
+use native.Mathlib.Numerals.{add-one}
+use native.Mathlib.Omega.{arith}
+use Rattle.mask.specs.Mask.{has}
+use Rattle.mask.proofs.Sets.{no_bit}
+use Rattle.flow.specs.Flows.{some}
+use Rattle.sets.proofs.Named.{some_more}
+use Rattle.slots.specs.Layout.{claim_in}
+use Rattle.raise.specs.Inside.{field_has}
+use Rattle.raise.proofs.masks.from_fields.Given as goal
+
+abbrev pub invariant-loop-k : goal.invariant-loop-k
+invariant-loop-k l = (l.k ≤ 60) × ((j : ℕ) → has l.all j ≡ some l.k (field_has (claim_in l.w) l.set l.x j))
+
+abbrev pub decreases-loop-k : goal.decreases-loop-k
+decreases-loop-k l = 60 - l.k

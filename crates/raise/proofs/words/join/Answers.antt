@@ -1,0 +1,19 @@
+-- `raise::words::join` meets its contract. Assumes nothing.
+use mathlib.Core.Path.{◌≡◌}
+use native.Mathlib.Omega.{arith}
+use lib.ListN.{length}
+use borrow.Author.Rules.{rules}
+use Rattle.raise.proofs.Places.{joined_at}
+use Rattle.raise.proofs.words.join.Goals as goal
+
+pub returns-then-i-lt9712 : goal.returns-then-i-lt9712
+returns-then-i-lt9712 c s e l =
+    let a = c.args in
+    let size : length a.w.now ≡ 9712 = c.put-arg-1.given.0.1 in
+    record {
+      joined = rw c.put.ensures.memory
+          (joined_at a.w.now a.i a.mask c.join-all.result size (omega arith) c.join-all.ensures.bits s e);
+    }
+
+pub returns : goal.returns
+returns c s e l = record { joined = absurd (omega (arith, e, l)) }

@@ -1,0 +1,14 @@
+-- `rows::put_heads`: what its loops keep, and what falls.
+use Prim.Native.Nat.{◌-◌, ◌≤◌}
+use borrow.Author.Rules.{rules}
+use Rattle.page.specs.Page.{Put}
+use Rattle.page.proofs.Puts.{put_none, put_then, put_length}
+use Rattle.rows.specs.Rows.{heads_text}
+use Rattle.rows.proofs.Loops.{put_joined, put_all}
+use Rattle.rows.proofs.put_heads.Given as goal
+
+abbrev pub invariant-loop-i : goal.invariant-loop-i
+invariant-loop-i l = (l.i ≤ l.count) × Put l.initial.out l.at (heads_text l.words l.from l.i) l.out l.next
+
+abbrev pub decreases-loop-i : goal.decreases-loop-i
+decreases-loop-i l = l.count - l.i

@@ -1,0 +1,38 @@
+-- `sets::class_set` meets its contract. The loop's invariant: the set has the classes before the next one. Assumes nothing.
+use mathlib.Core.Path.{◌≡◌, ◌∙◌}
+use mathlib.Core.Bool.{true, ◌&&◌}
+use Prim.Native.Nat.{ℕ, ◌-◌, ◌<◌}
+use native.Mathlib.Omega.{arith}
+use lib.Dec.{ltb}
+use Rattle.mask.specs.Mask.{has}
+use Rattle.mask.proofs.Sets.{and_end}
+use Rattle.program.specs.Program.{class_count}
+use Rattle.program.specs.Tables.{program_in}
+use Rattle.program.proofs.Read.{classes_limit}
+use borrow.Author.Tests.{lt-ltb}
+use Rattle.sets.proofs.Adding.{start, added, finish}
+use Rattle.sets.proofs.class_set.Goals as goal
+
+pub loop-k-init : goal.loop-k-init
+loop-k-init c = start (λ i. ltb i (class_count (program_in c.args.t.now)) && true)
+
+pub loop-k-preserved : goal.loop-k-preserved
+loop-k-preserved c =
+    let a = c.args in
+    let p = program_in a.t.now in
+    let k = c.loop-k.k in
+    let l : k < class_count p = omega (arith, c.class_count-n.ensures.value) in
+    added (λ i. ltb i (class_count p) && true) c.loop-k.set c.add-set.result k true
+    (omega (arith, classes_limit a.t.now))
+    (rw (lt-ltb k (class_count p) l))
+    c.add-set.ensures.bits
+    c.loop-k.invariant
+
+pub returns : goal.returns
+returns c k =
+    let p = program_in c.args.t.now in
+    record {
+      bits = c.loop-k.invariant k
+          ∙ finish (class_count p) c.loop-k.k k true (omega (arith, c.class_count-n.ensures.value))
+          ∙ and_end (ltb k (class_count p));
+    }

@@ -1,0 +1,20 @@
+-- `sets::class_set`: what its loops keep, and what falls.
+use mathlib.Core.Path.{◌≡◌, ◌∙◌}
+use mathlib.Core.Bool.{true, ◌&&◌}
+use Prim.Native.Nat.{ℕ, ◌-◌, ◌<◌}
+use native.Mathlib.Omega.{arith}
+use lib.Dec.{ltb}
+use Rattle.mask.specs.Mask.{has}
+use Rattle.mask.proofs.Sets.{and_end}
+use Rattle.program.specs.Program.{class_count}
+use Rattle.program.specs.Tables.{program_in}
+use Rattle.program.proofs.Read.{classes_limit}
+use borrow.Author.Tests.{lt-ltb}
+use Rattle.sets.proofs.Adding.{start, added, finish}
+use Rattle.sets.proofs.class_set.Given as goal
+
+abbrev pub invariant-loop-k : goal.invariant-loop-k
+invariant-loop-k l = (i : ℕ) → has l.set i ≡ ltb i l.k && (ltb i (class_count (program_in l.t)) && true)
+
+abbrev pub decreases-loop-k : goal.decreases-loop-k
+decreases-loop-k l = l.n - l.k

@@ -1,0 +1,16 @@
+-- `text::after_blocks`: what its loops keep, and what falls.
+use mathlib.Core.Path.{◌≡◌, refl, sym, ◌∙◌}
+use Prim.Native.Nat.{◌+◌, ◌-◌, ◌≤◌}
+use native.Mathlib.Omega.{arith}
+use lib.ListN.{length, drop}
+use borrow.Author.Tests.{not-false}
+use Rattle.text.specs.Run.{digit_run}
+use Rattle.text.proofs.Digits.{run_past}
+use Rattle.text.proofs.after_blocks.Given as goal
+
+abbrev pub invariant-loop-i : goal.invariant-loop-i
+invariant-loop-i l =
+    (l.at ≤ l.i) × (l.i ≤ length l.text) × (l.at + digit_run (drop l.at l.text) ≡ l.i + digit_run (drop l.i l.text))
+
+abbrev pub decreases-loop-i : goal.decreases-loop-i
+decreases-loop-i l = length l.text - l.i

@@ -1,0 +1,16 @@
+-- `text::words::two` meets its contract: the word of each half, joined. Assumes nothing.
+use mathlib.Core.Path.{refl}
+use native.Mathlib.Omega.{arith}
+use Rattle.text.proofs.WordLists.{word_joined}
+use Rattle.text.proofs.words.two.Goals as goal
+
+pub overflow_mul-result : goal.overflow_mul-result
+overflow_mul-result c = omega (arith, c.one-2.ensures.range)
+
+pub returns : goal.returns
+returns c =
+    let a = c.args in
+    let joined =
+    word_joined a.text.now a.at 1 8 c.one.result c.one-2.result (omega arith) refl c.one.ensures.range
+    c.one.ensures.value c.one-2.ensures.value in
+    record { value = joined.0; range = omega (arith, joined.1, c.one-2.ensures.range, c.one.ensures.range) }

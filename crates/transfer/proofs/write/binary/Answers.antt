@@ -1,0 +1,9 @@
+-- `transfer::write::binary` meets its contract. Assumes nothing.
+use Rattle.transfer.proofs.Raising.{raised_after}
+use Rattle.transfer.proofs.write.binary.Goals as goal
+
+pub of_both-new-requires : goal.of_both-new-requires
+of_both-new-requires c = c.requires
+
+pub returns : goal.returns
+returns c made la formed lm lp = record { raised = raised_after _ _ _ _ _ _ _ (c.of_both-new.ensures.raised formed lm lp la) (c.divided_by_zero.ensures.raised made formed lm) }

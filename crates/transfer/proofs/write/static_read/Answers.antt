@@ -1,0 +1,19 @@
+-- `transfer::write::static_read` meets its contract. Assumes nothing.
+use Prim.Native.Nat.{suc}
+use Rattle.flow.specs.Claim.{register_at, static_of}
+use Rattle.flow.specs.Flows.{◌⊆◌}
+use Rattle.slots.specs.Layout.{claim_in}
+use Rattle.transfer.proofs.Written.{gives_mask}
+use Rattle.transfer.proofs.write.static_read.Goals as goal
+
+pub written-requires : goal.written-requires
+written-requires c = ?before
+
+pub returns : goal.returns
+returns c =
+    let a = ?before in
+    let after = register_at a.m (suc a.pc) a.to in
+    record {
+      raised = c.written.ensures.raised (static_of a.place ⊆ after)
+          (rw c.of_static-value.ensures.value (gives_mask (static_of a.place) after (claim_in a.w.now)));
+    }

@@ -1,0 +1,52 @@
+-- `translator::check::branch_at` meets its contract. Assumes nothing.
+use mathlib.Core.Path.{◌≡◌, sym, ap, ◌∙◌}
+use native.Mathlib.Omega.{arith}
+use borrow.Author.Rules.{rules}
+use borrow.Author.Tests.{not-true, not-false}
+use Rattle.instruction.specs.Word.{word_of}
+use Rattle.units.specs.Units.{units_of}
+use Rattle.units.specs.Frames.{reached}
+use Rattle.translator.specs.Inside.{branch_target}
+use Rattle.translator.proofs.Checking.{target_place, branch_there, there_address, branch_refused, branch_word}
+use Rattle.translator.proofs.check.branch_at.Goals as goal
+
+pub returns-then-not-is_branch_fine : goal.returns-then-not-is_branch_fine
+returns-then-not-is_branch_fine c =
+    let a = c.args in
+    let us = units_of a.text.now in
+    let u = c.unit-u.result in
+    let v = c.unit-v.result in
+    let to = branch_target us a.at a.b in
+    let place = c.target_of-place.result in
+    let e : place ≡ to =
+    target_place a.text.now a.at a.b u v c.unit-w.result place
+    (c.target_of-place.ensures.value (omega arith)) c.unit-u.ensures.value c.unit-v.ensures.value
+    c.unit-w.ensures.value in
+    let there = branch_there a.text.now a.at a.b a.start place e c.requires.2 in
+    let fine = c.is_branch_fine.ensures.value (reached us to) there in
+    record {
+      value = branch_refused us a.at a.b u v c.unit-u.ensures.value c.unit-v.ensures.value
+          (sym fine ∙ not-true _ c.if-not-is_branch_fine.true);
+    }
+
+pub returns : goal.returns
+returns c =
+    let a = c.args in
+    let us = units_of a.text.now in
+    let u = c.unit-u.result in
+    let v = c.unit-v.result in
+    let to = branch_target us a.at a.b in
+    let place = c.target_of-place.result in
+    let e : place ≡ to =
+    target_place a.text.now a.at a.b u v c.unit-w.result place
+    (c.target_of-place.ensures.value (omega arith)) c.unit-u.ensures.value c.unit-v.ensures.value
+    c.unit-w.ensures.value in
+    let there = branch_there a.text.now a.at a.b a.start place e c.requires.2 in
+    let fine = c.is_branch_fine.ensures.value (reached us to) there in
+    let well = sym fine ∙ not-false _ c.if-not-is_branch_fine.false in
+    let address = there_address us to a.start c.requires.2 a.b u v well in
+    record {
+      value = branch_word us a.at a.b u v c.unit-u.ensures.value c.unit-v.ensures.value well _ address
+          c.encode.result
+          (c.encode.ensures.value ∙ ap word_of c.branch_frame.ensures.value);
+    }

@@ -1,0 +1,28 @@
+-- `translator::put::put_frames` meets its contract. Assumes nothing.
+use mathlib.Core.Path.{refl, sym, ap}
+use native.Mathlib.Omega.{arith}
+use borrow.Author.Rules.{rules}
+use borrow.Author.Tests.{lt-ltb, le-ltb}
+use Rattle.output.specs.declared.Output.TheVariants.{Written}
+use Rattle.page.proofs.Puts.{whole, put_length}
+use Rattle.translator.proofs.FrameText.{first_length}
+use Rattle.translator.proofs.put.put_frames.Goals as goal
+
+pub returns-then-memory-count : goal.returns-then-memory-count
+returns-then-memory-count c =
+    let a = c.args in
+    let size = first_length a.words.now a.count
+    (omega (arith, c.requires.0, c.requires.1)) in
+    let short = lt-ltb _ _ (rw (← size) at c.if-memory-count.true) in
+    record { answer = (rw short (refl, refl)).0; memory = (rw short (refl, refl)).1 }
+
+pub shape_of-memory : goal.shape_of-memory
+shape_of-memory c = put_length c.put_lines.ensures.put
+
+pub returns : goal.returns
+returns c =
+    let a = c.args in
+    let size = first_length a.words.now a.count
+    (omega (arith, c.requires.0, c.requires.1)) in
+    let room = rw (← size) at c.if-memory-count.false in
+    record { answer = (rw (le-ltb _ _ room) (ap Written (sym size), (whole c.put_lines.ensures.put room).1)).0; memory = (rw (le-ltb _ _ room) (ap Written (sym size), (whole c.put_lines.ensures.put room).1)).1 }

@@ -1,0 +1,16 @@
+-- `values::repeated`: what its loops keep, and what falls.
+use mathlib.Core.Path.{◌≡◌, sym, ap}
+use mathlib.Core.Bool.{false}
+use Prim.Native.Nat.{ℕ, ◌<◌, ◌-◌}
+use native.Mathlib.Omega.{arith}
+use borrow.Author.Count.{below_none, below_more}
+use Rattle.program.specs.Tables.{program_in}
+use Rattle.program.proofs.Lists.{first_stop, first_none}
+use Rattle.values.specs.Values.{alike, some?, repeated}
+use Rattle.values.proofs.repeated.Given as goal
+
+abbrev pub invariant-loop-k : goal.invariant-loop-k
+invariant-loop-k l = (j : ℕ) → j < l.k → alike (program_in l.t) l.m j ≡ false
+
+abbrev pub decreases-loop-k : goal.decreases-loop-k
+decreases-loop-k l = l.m - l.k

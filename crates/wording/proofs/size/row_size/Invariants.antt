@@ -1,0 +1,20 @@
+-- `wording::size::row_size`: what its loops keep, and what falls.
+use mathlib.Core.Path.{◌≡◌, ap, ◌∙◌}
+use mathlib.Core.List.{List}
+use Prim.Native.Nat.{ℕ, ◌-◌, ◌*◌, ◌≤◌}
+use native.Mathlib.Omega.{arith}
+use lib.ListN.{length}
+use Rattle.program.specs.Lists.{joined}
+use Rattle.program.specs.Tables.{program_in}
+use Rattle.flow.specs.Claim.{Claim}
+use Rattle.claim.specs.Frames.{Due, inner, frame_at}
+use Rattle.wording.specs.ClaimText.{frames_text}
+use Rattle.wording.proofs.Lengths.{size_more, inner_few}
+use Rattle.wording.proofs.size.row_size.Given as goal
+
+abbrev pub invariant-loop-b : goal.invariant-loop-b
+invariant-loop-b l =
+    (l.b ≤ l.n) × (l.size ≤ 4103 * l.b) × ((c : Claim) → l.size ≡ length (frames_text c (joined l.b (frame_at (program_in l.t) l.k l.a))))
+
+abbrev pub decreases-loop-b : goal.decreases-loop-b
+decreases-loop-b l = l.n - l.b

@@ -1,0 +1,14 @@
+-- `worklist::go_on` meets its contract. Assumes nothing.
+use Rattle.program.specs.Tables.{program_in}
+use Rattle.fixpoint.proofs.Rises.{raised_risen, risen_then}
+use Rattle.worklist.proofs.go_on.Goals as goal
+
+pub work-requires : goal.work-requires
+work-requires c = c.requires
+
+pub returns : goal.returns
+returns c formed lm lp =
+    let a = c.args in
+    let p = program_in a.t.now in
+    let risen = raised_risen p a.m a.pc _ _ lm lp (c.raise_at.ensures.raised c.requires formed lm lp) in
+    record { risen = risen_then p a.m a.pc _ _ _ risen (c.work.ensures.upward formed) }

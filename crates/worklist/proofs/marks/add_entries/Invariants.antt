@@ -1,0 +1,10 @@
+-- `worklist::marks::add_entries`: what its loops keep, and what falls.
+use Prim.Native.Nat.{◌-◌, ◌≤◌}
+use native.Mathlib.Omega.{arith}
+use Rattle.worklist.proofs.marks.add_entries.Given as goal
+
+abbrev pub invariant-loop-m : goal.invariant-loop-m
+invariant-loop-m l = l.m ≤ 16
+
+abbrev pub decreases-loop-m : goal.decreases-loop-m
+decreases-loop-m l = 16 - l.m

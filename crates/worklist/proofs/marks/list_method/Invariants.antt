@@ -1,0 +1,10 @@
+-- `worklist::marks::list_method`: what its loops keep, and what falls.
+use Prim.Native.Nat.{◌-◌, ◌≤◌}
+use native.Mathlib.Omega.{arith}
+use Rattle.worklist.proofs.marks.list_method.Given as goal
+
+abbrev pub invariant-loop-pc : goal.invariant-loop-pc
+invariant-loop-pc l = l.pc ≤ l.n
+
+abbrev pub decreases-loop-pc : goal.decreases-loop-pc
+decreases-loop-pc l = l.n - l.pc

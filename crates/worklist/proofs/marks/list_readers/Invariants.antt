@@ -1,0 +1,10 @@
+-- `worklist::marks::list_readers`: what its loops keep, and what falls.
+use Prim.Native.Nat.{◌-◌, ◌≤◌}
+use native.Mathlib.Omega.{arith}
+use Rattle.worklist.proofs.marks.list_readers.Given as goal
+
+abbrev pub invariant-loop-m : goal.invariant-loop-m
+invariant-loop-m l = l.m ≤ l.n
+
+abbrev pub decreases-loop-m : goal.decreases-loop-m
+decreases-loop-m l = l.n - l.m
