@@ -29,9 +29,13 @@ returns-in-Move c = record { value = rw (c.in-Move.is, c.pack-in-Move.ensures.va
 
 pub returns-in-Const : goal.returns-in-Const
 returns-in-Const c =
-    let i = c.i-in-Const-1.given in
-    let fits = c.known_told-in-Const-1.given.1.0.1 in
-    record { value = rw (i.1, c.pack-in-Const.ensures.value, c.bits.ensures.value, to_z-of_z w32 i.0.1.0 (record { sfits = fits })) }
+    record {
+      value = rw (
+        c.in-Const.is,
+        c.pack-in-Const.ensures.value,
+        c.bits.ensures.value,
+        to_z-of_z w32 c.in-Const.value (record { sfits = c.in-Const.known_told-in-Const-1-own.given.1.0.1 }))
+    }
 
 pub returns-in-Goto : goal.returns-in-Goto
 returns-in-Goto c = record { value = rw (c.in-Goto.is, c.pack-in-Goto.ensures.value) }
