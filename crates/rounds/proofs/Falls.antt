@@ -16,7 +16,7 @@ use Rattle.shift.specs.declared.Stay.{Stay}
 use Rattle.shift.proofs.Places.{preceding_is}
 use Rattle.shift.specs.Stay.{is_went, again_left, site_of, stay_of, at_of, raised_at, is_running, runs_on}
 use Rattle.drive.specs.Models.{Lent, Done, done, looped}
-use Rattle.drive.proofs.Turns.{Same}
+use Rattle.drive.proofs.Driver.{Same}
 use Rattle.drive.proofs.Keeps.{pick_keeps, loop_keeps}
 use Rattle.drive.proofs.Turns.{same_turns}
 use Rattle.work.proofs.Keeps.{perform_keeps}

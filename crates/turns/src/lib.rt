@@ -1,5 +1,5 @@
 // Steps that do not stay in their frame, done in the lent slices. The functions of one kind of step differ in what it comes to
-// alone: one proof serves them all.
+// alone.
 #![tactic(auto)]
 
 mod dispatch; // dispatch.rt: what a run has come to, by its kind

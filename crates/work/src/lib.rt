@@ -1,5 +1,5 @@
 // Instructions that stay in their frame, done in the lent slices. The functions of one instruction differ in what it comes to
-// alone: one proof serves them all.
+// alone.
 #![tactic(auto)]
 
 ghost use Rattle.std.specs.Prelude.{◌≡◌};
