@@ -1,6 +1,5 @@
 -- `reader::take` meets its contract. Assumes nothing.
 use Rattle.reader.proofs.Outcome.{told_long, told_order, told_values, told_read}
-use borrow.Author.Rules.{rules}
 use Rattle.reader.proofs.take.Goals as goal
 
 pub returns-then-text-gt65536 : goal.returns-then-text-gt65536
@@ -12,7 +11,7 @@ pub returns-then-order-ne0 : goal.returns-then-order-ne0
 returns-then-order-ne0 c =
     let w = c.walk-order in
     let r = told_order c.args.text.now c.if-text-gt65536.false w.result _ c.refusal.result w.ensures.read c.if-order-ne0.true
-        c.refusal.ensures.value in
+    c.refusal.ensures.value in
     record { answer = r.0; tables = r.1 }
 
 pub returns-then-value-ne0 : goal.returns-then-value-ne0
@@ -20,7 +19,7 @@ returns-then-value-ne0 c =
     let w = c.walk-order in
     let m = c.first_mark-value in
     let r = told_values c.args.text.now c.if-text-gt65536.false w.result _ w.ensures.read c.if-order-ne0.false m.result
-        m.ensures.value c.refusal-then-value-ne0.result c.if-value-ne0.true c.refusal-then-value-ne0.ensures.value in
+    m.ensures.value c.refusal-then-value-ne0.result c.if-value-ne0.true c.refusal-then-value-ne0.ensures.value in
     record { answer = r.0; tables = r.1 }
 
 pub returns : goal.returns
@@ -28,5 +27,5 @@ returns c =
     let w = c.walk-order in
     let m = c.first_mark-value in
     let r = told_read c.args.text.now c.if-text-gt65536.false w.result _ w.ensures.read c.if-order-ne0.false m.result
-        m.ensures.value c.if-value-ne0.false in
+    m.ensures.value c.if-value-ne0.false in
     record { answer = r.0; tables = r.1 }
