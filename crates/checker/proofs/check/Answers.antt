@@ -9,32 +9,8 @@ pub returns : goal.returns
 returns c =
     let e = c.check_by.ensures in
     record {
-      verdict = (let a = c.args in (
-        e.0,
-        (
-          (ap number_of e.0, ap values_of e.0),
-          (e.1, λ k f. accepted_covered a.program.now a.claim.now a.memory.now _ _ k f e.0 e.1),
-        ),
-      )).0;
-      numbers = (let a = c.args in (
-        e.0,
-        (
-          (ap number_of e.0, ap values_of e.0),
-          (e.1, λ k f. accepted_covered a.program.now a.claim.now a.memory.now _ _ k f e.0 e.1),
-        ),
-      )).1.0;
-      memory = (let a = c.args in (
-        e.0,
-        (
-          (ap number_of e.0, ap values_of e.0),
-          (e.1, λ k f. accepted_covered a.program.now a.claim.now a.memory.now _ _ k f e.0 e.1),
-        ),
-      )).1.1.0;
-      coverage = (let a = c.args in (
-        e.0,
-        (
-          (ap number_of e.0, ap values_of e.0),
-          (e.1, λ k f. accepted_covered a.program.now a.claim.now a.memory.now _ _ k f e.0 e.1),
-        ),
-      )).1.1.1;
+      verdict = let a = c.args in e.0;
+      numbers = let a = c.args in (ap number_of e.0, ap values_of e.0);
+      memory = let a = c.args in e.1;
+      coverage = let a = c.args in λ k f. accepted_covered a.program.now a.claim.now a.memory.now _ _ k f e.0 e.1;
     }
