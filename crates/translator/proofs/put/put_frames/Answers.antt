@@ -14,7 +14,7 @@ returns-then-memory-count c =
     let size = first_length a.words.now a.count
     (omega (arith, c.requires.0, c.requires.1)) in
     let short = lt-ltb _ _ (rw (← size) at c.if-memory-count.true) in
-    record { answer = (rw short (refl, refl)).0; memory = (rw short (refl, refl)).1 }
+    record { answer = rw short; memory = rw short }
 
 pub shape_of-memory : goal.shape_of-memory
 shape_of-memory c = put_length c.put_lines.ensures.put
@@ -25,4 +25,5 @@ returns c =
     let size = first_length a.words.now a.count
     (omega (arith, c.requires.0, c.requires.1)) in
     let room = rw (← size) at c.if-memory-count.false in
-    record { answer = (rw (le-ltb _ _ room) (ap Written (sym size), (whole c.put_lines.ensures.put room).1)).0; memory = (rw (le-ltb _ _ room) (ap Written (sym size), (whole c.put_lines.ensures.put room).1)).1 }
+    let fits = le-ltb _ _ room in
+    record { answer = rw fits (ap Written (sym size)); memory = rw fits (whole c.put_lines.ensures.put room).1 }
