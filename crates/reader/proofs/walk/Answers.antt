@@ -1,11 +1,8 @@
 -- `reader::walk` meets its contract: before each line the tables hold the program so far. The measure is what is left of the
 -- text. Assumes nothing.
 use mathlib.Core.Path.{sym, ◌∙◌}
-use Prim.Native.Nat.{◌-◌}
 use native.Mathlib.Omega.{arith}
-use lib.ListN.{length}
-use borrow.Author.Rules.{rules}
-use Rattle.reader.proofs.Turn.{Before, start, at_end, at_missing, at_broken, room, at_fault, onward, after}
+use Rattle.reader.proofs.Turn.{start, at_end, at_missing, at_broken, room, at_fault, onward, after}
 use Rattle.reader.proofs.walk.Goals as goal
 
 pub loop-digits-init : goal.loop-digits-init
