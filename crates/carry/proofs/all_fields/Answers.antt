@@ -25,14 +25,14 @@ returns-then-not-class_fields c =
     let n = class_count (program_in a.t.now) in
     let l : c.loop-k.k < n = omega arith in
     let e : test a.t.now a.w.now c.loop-k.k ≡ false =
-    sym c.class_fields.ensures.value ∙ not-true _ c.if-not-class_fields.true in
+    sym c.class_fields.ensures.value ∙ c.if-not-class_fields.true in
     record { value = sym (every_not n (test a.t.now a.w.now) c.loop-k.k l e) }
 
 pub loop-k-preserved : goal.loop-k-preserved
 loop-k-preserved c =
     let a = c.args in
     let e : test a.t.now a.w.now c.loop-k.k ≡ true =
-    sym c.class_fields.ensures.value ∙ not-false _ c.if-not-class_fields.false in
+    sym c.class_fields.ensures.value ∙ c.if-not-class_fields.false in
     (omega arith, below_more (λ i. test a.t.now a.w.now i ≡ true) c.loop-k.k c.loop-k.invariant.1 e)
 
 pub returns : goal.returns

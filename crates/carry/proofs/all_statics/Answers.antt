@@ -26,14 +26,14 @@ returns-then-not-has c =
     let p = program_in a.t.now in
     let l : c.loop-x.x < p.statics = omega arith in
     let e : test a.w.now c.loop-x.x ≡ false =
-    sym (has_of _ _ _ _ c.has.ensures.value c.of_static-mask.ensures.value) ∙ not-true _ c.if-not-has.true in
+    sym (has_of _ _ _ _ c.has.ensures.value c.of_static-mask.ensures.value) ∙ c.if-not-has.true in
     record { value = sym (every_not p.statics (test a.w.now) c.loop-x.x l e) }
 
 pub loop-x-preserved : goal.loop-x-preserved
 loop-x-preserved c =
     let a = c.args in
     let e : test a.w.now c.loop-x.x ≡ true =
-    sym (has_of _ _ _ _ c.has.ensures.value c.of_static-mask.ensures.value) ∙ not-false _ c.if-not-has.false in
+    sym (has_of _ _ _ _ c.has.ensures.value c.of_static-mask.ensures.value) ∙ c.if-not-has.false in
     (omega arith, below_more (λ i. test a.w.now i ≡ true) c.loop-x.x c.loop-x.invariant.1 e)
 
 pub returns : goal.returns

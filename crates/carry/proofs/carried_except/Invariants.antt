@@ -19,6 +19,10 @@ use Rattle.slots.specs.Layout.{claim_in}
 use Rattle.carry.proofs.Tests.{asked, unasked, subset_of}
 use Rattle.carry.proofs.carried_except.Given as goal
 
+-- the test of register r
+abbrev pub test : List ℕ → ℕ → ℕ → ℕ → ℕ → ℕ → Bool
+test ws m pc a to r = kept (claim_in ws) (when (not (eqb r a)) (register_at m pc r ⊆ register_at m to r))
+
 abbrev pub invariant-loop-r : goal.invariant-loop-r
 invariant-loop-r l = (l.r ≤ l.n) × ((k : ℕ) → k < l.r → test l.w l.m l.pc l.a l.to k ≡ true)
 

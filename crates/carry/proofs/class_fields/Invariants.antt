@@ -19,6 +19,10 @@ use Rattle.slots.specs.Layout.{claim_in}
 use Rattle.carry.proofs.Tests.{asked, unasked, has_of}
 use Rattle.carry.proofs.class_fields.Given as goal
 
+-- the test of field x
+abbrev pub test : List ℕ → List ℕ → ℕ → ℕ → Bool
+test ts ws k x = kept (claim_in ws) (when (has_field (program_in ts) k x) (zero_bit ∈ field_of k x))
+
 abbrev pub invariant-loop-x : goal.invariant-loop-x
 invariant-loop-x l = (l.x ≤ l.n) × ((i : ℕ) → i < l.x → test l.t l.w l.k i ≡ true)
 

@@ -28,14 +28,14 @@ returns-then-not-has c =
     let n = registers p a.m - arguments p a.m in
     let l : c.loop-r.r < n = omega arith in
     let e : test a.w.now a.m c.loop-r.r ≡ false =
-    sym (has_of _ _ _ _ c.has.ensures.value c.register-mask.ensures.value) ∙ not-true _ c.if-not-has.true in
+    sym (has_of _ _ _ _ c.has.ensures.value c.register-mask.ensures.value) ∙ c.if-not-has.true in
     record { value = and_failed _ _ _ refl (sym (every_not n (test a.w.now a.m) c.loop-r.r l e)) }
 
 pub loop-r-preserved : goal.loop-r-preserved
 loop-r-preserved c =
     let a = c.args in
     let e : test a.w.now a.m c.loop-r.r ≡ true =
-    sym (has_of _ _ _ _ c.has.ensures.value c.register-mask.ensures.value) ∙ not-false _ c.if-not-has.false in
+    sym (has_of _ _ _ _ c.has.ensures.value c.register-mask.ensures.value) ∙ c.if-not-has.false in
     (omega arith, below_more (λ i. test a.w.now a.m i ≡ true) c.loop-r.r c.loop-r.invariant.1 e)
 
 pub returns : goal.returns

@@ -29,7 +29,7 @@ loop-k-preserved c =
     c.loop-k.invariant
 
 pub returns : goal.returns
-returns c k =
+returns c = record { bits = λ k.
     let a = c.args in
     let p = program_in a.t.now in
-    record { bits = c.loop-k.invariant k ∙ finish (class_count p) c.loop-k.k k (below p k a.j) (omega (arith, c.class_count-n.ensures.value)) }
+    c.loop-k.invariant k ∙ finish (class_count p) c.loop-k.k k (below p k a.j) (omega (arith, c.class_count-n.ensures.value)) }

@@ -29,10 +29,8 @@ loop-k-preserved c =
     c.loop-k.invariant
 
 pub returns : goal.returns
-returns c k =
+returns c = record { bits = λ k.
     let p = program_in c.args.t.now in
-    record {
-      bits = c.loop-k.invariant k
+    c.loop-k.invariant k
           ∙ finish (class_count p) c.loop-k.k k true (omega (arith, c.class_count-n.ensures.value))
-          ∙ and_end (ltb k (class_count p));
-    }
+          ∙ and_end (ltb k (class_count p)) }

@@ -1,7 +1,6 @@
 -- `translator::translate` meets its contract. Assumes nothing.
 use mathlib.Core.Path.{sym, ap, ◌∙◌}
 use native.Mathlib.Omega.{arith}
-use borrow.Author.Rules.{rules}
 use Rattle.units.specs.Units.{units_of}
 use Rattle.units.specs.Translate.{units_translation}
 use Rattle.output.specs.Numbers.{number_of, values_of}

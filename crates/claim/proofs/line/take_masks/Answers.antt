@@ -30,12 +30,12 @@ loop-r-init c =
     )
 
 pub returns-then-not-put_mask : goal.returns-then-not-put_mask
-returns-then-not-put_mask c s e =
+returns-then-not-put_mask c = record { masks = λ s e.
     let a = c.args in
     let flag = c.put_mask.ensures.value ∙ ap (λ (b : ℕ). subset (mask_of b) (mask_of a.allowed)) c.loop-r.invariant.1 in
     let none = masks_refused a.text.now a.allowed a.n (register_at a.m a.pc) a.at c.loop-r.w c.loop-r.r
-    c.loop-r-test.true c.put_mask.result flag (not-true _ c.if-not-put_mask.true) in
-    record { masks = sym (masks_fail a.text.now a.allowed (tab a.n (register_at a.m a.pc)) (s ∷ []) a.at a.w.now (c.loop-r.invariant.2 ∙ none)) }
+    c.loop-r-test.true c.put_mask.result flag c.if-not-put_mask.true in
+    sym (masks_fail a.text.now a.allowed (tab a.n (register_at a.m a.pc)) (s ∷ []) a.at a.w.now (c.loop-r.invariant.2 ∙ none)) }
 
 pub overflow_mul-r : goal.overflow_mul-r
 overflow_mul-r c =
@@ -70,16 +70,14 @@ loop-r-preserved c =
       omega (arith, c.loop-r-test.true),
       rw next at c.mask_after-bits.ensures.value,
       c.loop-r.invariant.2 ∙ masks_taken a.text.now a.allowed a.n (register_at a.m a.pc) a.at c.loop-r.w c.loop-r.r
-          c.loop-r-test.true c.put_mask.result flag c.register_place.result _ (not-false _ c.if-not-put_mask.false) c.register_place.ensures.value words,
+          c.loop-r-test.true c.put_mask.result flag c.register_place.result _ c.if-not-put_mask.false c.register_place.ensures.value words,
     )
 
 pub returns : goal.returns
-returns c s e =
+returns c = record { masks = λ s e.
     let a = c.args in
     let left = c.loop-r-test.false in
     let last : c.loop-r.r ≡ a.n = omega (arith, left) in
     let done = c.loop-r.invariant.2 ∙ masks_end a.text.now a.allowed a.n (register_at a.m a.pc) a.at c.loop-r.w c.loop-r.r left in
-    record {
-      masks = masks_finished a.text.now a.allowed a.n (register_at a.m a.pc) a.at c.loop-r.w a.w.now s done
-          c.put_mask-2.result c.loop-r.bits a.last _ (rw last at c.loop-r.invariant.1) c.put_mask-2.ensures.value e c.put_mask-2.ensures.memory;
-    }
+    masks_finished a.text.now a.allowed a.n (register_at a.m a.pc) a.at c.loop-r.w a.w.now s done
+          c.put_mask-2.result c.loop-r.bits a.last _ (rw last at c.loop-r.invariant.1) c.put_mask-2.ensures.value e c.put_mask-2.ensures.memory }

@@ -47,20 +47,10 @@ returns c =
     let a = c.args in
     let p = program_in a.t.now in
     record {
-      place = ((
-        c.loop-a.invariant.1,
-        sym
+      place = c.loop-a.invariant.1;
+      progress = sym
             (c.loop-a.invariant.2 ∙ frames_end_lem p c.outer-n.result (row_due p a.k) c.loop-a.a
             c.loop-a-test.false (progress_of a.text.now c.loop-a.to c.loop-a.w)) ∙ ap
             (λ (n : ℕ). take_frames p (joined n (row_due p a.k)) (progress_of a.text.now a.from a.w.now))
-            c.outer-n.ensures.value,
-      )).0;
-      progress = ((
-        c.loop-a.invariant.1,
-        sym
-            (c.loop-a.invariant.2 ∙ frames_end_lem p c.outer-n.result (row_due p a.k) c.loop-a.a
-            c.loop-a-test.false (progress_of a.text.now c.loop-a.to c.loop-a.w)) ∙ ap
-            (λ (n : ℕ). take_frames p (joined n (row_due p a.k)) (progress_of a.text.now a.from a.w.now))
-            c.outer-n.ensures.value,
-      )).1;
+            c.outer-n.ensures.value;
     }

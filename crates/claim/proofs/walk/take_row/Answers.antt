@@ -46,20 +46,10 @@ returns c =
     let a = c.args in
     let p = program_in a.t.now in
     record {
-      place = ((
-        c.loop-b.invariant.1,
-        sym
+      place = c.loop-b.invariant.1;
+      progress = sym
             (c.loop-b.invariant.2 ∙ frames_end_lem p c.inner-n.result (frame_at p a.k a.a) c.loop-b.b
             c.loop-b-test.false (progress_of a.text.now c.loop-b.to c.loop-b.w)) ∙ ap
             (λ (n : ℕ). take_frames p (joined n (frame_at p a.k a.a)) (progress_of a.text.now a.from a.w.now))
-            c.inner-n.ensures.value,
-      )).0;
-      progress = ((
-        c.loop-b.invariant.1,
-        sym
-            (c.loop-b.invariant.2 ∙ frames_end_lem p c.inner-n.result (frame_at p a.k a.a) c.loop-b.b
-            c.loop-b-test.false (progress_of a.text.now c.loop-b.to c.loop-b.w)) ∙ ap
-            (λ (n : ℕ). take_frames p (joined n (frame_at p a.k a.a)) (progress_of a.text.now a.from a.w.now))
-            c.inner-n.ensures.value,
-      )).1;
+            c.inner-n.ensures.value;
     }

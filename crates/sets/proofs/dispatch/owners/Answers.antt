@@ -28,8 +28,8 @@ loop-m-preserved c =
     )
 
 pub returns : goal.returns
-returns c k l =
+returns c = record { bits = λ k l.
     let a = c.args in
     let p = program_in a.t.now in
     let all : c.loop-m.m ≡ method_count p = omega (arith, c.method_count-n.ensures.value) in
-    record { bits = c.loop-m.invariant.1 k l ∙ ap (λ (m : ℕ). some m (answers p k a.name a.count)) all }
+    c.loop-m.invariant.1 k l ∙ ap (λ (m : ℕ). some m (answers p k a.name a.count)) all }

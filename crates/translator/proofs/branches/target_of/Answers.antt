@@ -1,5 +1,4 @@
 -- `translator::branches::target_of` meets its contract. Assumes nothing.
-use borrow.Author.Rules.{rules}
 use Rattle.translator.proofs.branches.target_of.Goals as goal
 
 pub returns-in-Goto : goal.returns-in-Goto

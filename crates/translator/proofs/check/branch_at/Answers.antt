@@ -1,7 +1,6 @@
 -- `translator::check::branch_at` meets its contract. Assumes nothing.
 use mathlib.Core.Path.{◌≡◌, sym, ap, ◌∙◌}
 use native.Mathlib.Omega.{arith}
-use borrow.Author.Rules.{rules}
 use Rattle.instruction.specs.Word.{word_of}
 use Rattle.units.specs.Units.{units_of}
 use Rattle.units.specs.Frames.{reached}

@@ -1,6 +1,5 @@
 -- `translator::check::plain_at` meets its contract. Assumes nothing.
 use mathlib.Core.Path.{sym, ◌∙◌}
-use borrow.Author.Rules.{rules}
 use Rattle.instruction.proofs.Laws.{holds}
 use Rattle.units.specs.Frames.{plain_fine, plain_frame}
 use Rattle.translator.proofs.Checking.{by_false, by_true}

@@ -1,7 +1,6 @@
 -- `translator::put::put_frames` meets its contract. Assumes nothing.
-use mathlib.Core.Path.{refl, sym, ap}
+use mathlib.Core.Path.{sym, ap}
 use native.Mathlib.Omega.{arith}
-use borrow.Author.Rules.{rules}
 use borrow.Author.Tests.{lt-ltb, le-ltb}
 use Rattle.output.specs.declared.Output.TheVariants.{Written}
 use Rattle.page.proofs.Puts.{whole, put_length}

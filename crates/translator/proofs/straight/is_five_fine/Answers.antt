@@ -2,7 +2,6 @@
 use mathlib.Core.Path.{sym, ◌∙◌}
 use borrow.Author.Tests.{le-leb, lt-leb}
 use Rattle.translator.proofs.Bools.{no_first, yes_first}
-use borrow.Author.Rules.{rules}
 use Rattle.translator.proofs.straight.is_five_fine.Goals as goal
 
 pub returns-then-n-gt5 : goal.returns-then-n-gt5

@@ -2,7 +2,6 @@
 use native.Mathlib.Omega.{arith}
 use mir.Syntax.{w32}
 use mir.ValLaws.{to_z-of_z}
-use borrow.Author.Rules.{rules}
 use Rattle.translator.proofs.straight.plain_frame.Goals as goal
 
 pub returns-in-Nop : goal.returns-in-Nop

@@ -1,6 +1,5 @@
 -- `translator::walk::length_at` meets its contract. Assumes nothing.
 use mathlib.Core.Path.{ap, ◌∙◌}
-use borrow.Author.Rules.{rules}
 use Rattle.opcodes.specs.Opcodes.{length_of}
 use Rattle.translator.proofs.walk.length_at.Goals as goal
 
