@@ -1,18 +1,13 @@
 -- `carry::all_fields` meets its contract. The loop's invariant: every class before the next one passes its test. Assumes nothing.
 -- the test of class k
 use mathlib.Core.Path.{◌≡◌, sym, ◌∙◌}
-use mathlib.Core.Bool.{Bool, true, false}
-use mathlib.Core.List.{List}
-use Prim.Native.Nat.{ℕ, ◌≤◌, ◌<◌, ◌-◌}
+use mathlib.Core.Bool.{true, false}
+use Prim.Native.Nat.{◌<◌}
 use native.Mathlib.Omega.{arith}
 use borrow.Author.Count.{below_more}
-use borrow.Author.Tests.{not-true, not-false}
 use Rattle.mask.proofs.Laws.{every_all, every_not}
 use Rattle.program.specs.Program.{class_count}
 use Rattle.program.specs.Tables.{program_in}
-use Rattle.flow.specs.Flows.{kept}
-use Rattle.slots.specs.Layout.{claim_in}
-use Rattle.carry.specs.Carried.{class_fields}
 use Rattle.carry.proofs.all_fields.Invariants.{test}
 use Rattle.carry.proofs.all_fields.Goals as goal
 

@@ -6,15 +6,12 @@ use mathlib.Core.List.{List}
 use Prim.Native.Nat.{ℕ, ◌+◌, ◌-◌, ◌≤◌, ◌<◌}
 use native.Mathlib.Omega.{arith}
 use borrow.Author.Count.{below_more}
-use borrow.Author.Tests.{not-true, not-false}
 use Rattle.mask.specs.declared.Mask.{Mask}
 use Rattle.mask.specs.Mask.{subset}
 use Rattle.mask.proofs.Laws.{every_all, every_not}
 use Rattle.program.specs.Program.{registers, arguments}
 use Rattle.program.specs.Tables.{program_in}
 use Rattle.flow.specs.Claim.{register_at}
-use Rattle.flow.specs.Flows.{kept}
-use Rattle.flow.specs.Rules.{argument_into}
 use Rattle.slots.specs.Layout.{claim_in}
 use Rattle.carry.proofs.Tests.{subset_of}
 use Rattle.carry.proofs.arguments.Invariants.{test}

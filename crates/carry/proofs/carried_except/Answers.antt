@@ -2,20 +2,19 @@
 -- nothing.
 use mathlib.Core.Path.{◌≡◌, sym, ap, ◌∙◌}
 use mathlib.Core.Bool.{Bool, true, false, not}
-use mathlib.Core.Logic.{⊎_elim}
 use mathlib.Core.List.{List}
-use Prim.Native.Nat.{ℕ, ◌≤◌, ◌<◌, ◌-◌}
+use Prim.Native.Nat.{ℕ, ◌<◌}
 use native.Mathlib.Omega.{arith}
 use lib.Dec.{eqb}
 use borrow.Author.Count.{below_more}
-use borrow.Author.Tests.{eq-eqb, ne_eqb, not-true, not-false}
+use borrow.Author.Tests.{eq-eqb, ne_eqb}
 use Rattle.mask.specs.declared.Mask.{Mask}
 use Rattle.mask.specs.Mask.{subset}
 use Rattle.mask.proofs.Laws.{every_all, every_not}
 use Rattle.program.specs.Program.{registers}
 use Rattle.program.specs.Tables.{program_in}
 use Rattle.flow.specs.Claim.{register_at}
-use Rattle.flow.specs.Flows.{◌⊆◌, when, kept}
+use Rattle.flow.specs.Flows.{◌⊆◌, kept}
 use Rattle.slots.specs.Layout.{claim_in}
 use Rattle.carry.proofs.Tests.{asked, unasked, subset_of}
 use Rattle.carry.proofs.carried_except.Invariants.{test}
@@ -53,9 +52,9 @@ loop-r-preserved c =
     let r = c.loop-r.r in
     let e : test a.w.now a.m a.pc a.a a.to r ≡ true =
     elim c.if-r-a.branch [
-      then-r-a+else-not-subset w ↦ tested a.w.now a.m a.pc a.a a.to r _ _ _ w.if-r-a.true w.subset.ensures.value w.register-from.ensures.value
+      | then-r-a+else-not-subset w ↦ tested a.w.now a.m a.pc a.a a.to r _ _ _ w.if-r-a.true w.subset.ensures.value w.register-from.ensures.value
           w.register-into.ensures.value ∙ w.if-not-subset.false
-    | else-r-a w ↦ left_out a.w.now a.m a.pc a.a a.to r w.if-r-a.false
+      | else-r-a w ↦ left_out a.w.now a.m a.pc a.a a.to r w.if-r-a.false
     ] in
     (omega arith, λ k l. below_more (λ i. test a.w.now a.m a.pc a.a a.to i ≡ true) r c.loop-r.invariant.1 e k l)
 

@@ -2,11 +2,9 @@
 use mathlib.Core.Path.{◌≡◌, sym, ◌∙◌}
 use mathlib.Core.Bool.{Bool, true, false}
 use mathlib.Core.List.{List}
-use mathlib.Core.Logic.{⊎_elim}
-use Prim.Native.Nat.{ℕ, ◌≤◌, ◌<◌, ◌-◌}
+use Prim.Native.Nat.{ℕ, ◌<◌}
 use native.Mathlib.Omega.{arith}
 use borrow.Author.Count.{below_more}
-use borrow.Author.Tests.{not-true, not-false}
 use Rattle.mask.specs.declared.Mask.{Mask}
 use Rattle.mask.specs.Mask.{zero_bit, has}
 use Rattle.mask.proofs.Laws.{every_all, every_not}
@@ -14,7 +12,7 @@ use Rattle.program.specs.Program.{field_count}
 use Rattle.program.specs.Tables.{program_in}
 use Rattle.search.specs.Search.{has_field}
 use Rattle.flow.specs.Claim.{field_of}
-use Rattle.flow.specs.Flows.{◌∈◌, when, kept}
+use Rattle.flow.specs.Flows.{◌∈◌, kept}
 use Rattle.slots.specs.Layout.{claim_in}
 use Rattle.carry.proofs.Tests.{asked, unasked, has_of}
 use Rattle.carry.proofs.class_fields.Invariants.{test}
@@ -49,9 +47,9 @@ loop-x-preserved c =
     let a = c.args in
     let e : test a.t.now a.w.now a.k c.loop-x.x ≡ true =
     elim c.if-has_field.branch [
-      then-has_field+else-not-has w ↦ tested a.t.now a.w.now a.k c.loop-x.x _ _ _ w.if-has_field.true c.has_field.ensures.value w.has.ensures.value
+      | then-has_field+else-not-has w ↦ tested a.t.now a.w.now a.k c.loop-x.x _ _ _ w.if-has_field.true c.has_field.ensures.value w.has.ensures.value
           w.field-mask.ensures.value ∙ w.if-not-has.false
-    | else-has_field w ↦ left_out a.t.now a.w.now a.k c.loop-x.x _ w.if-has_field.false c.has_field.ensures.value
+      | else-has_field w ↦ left_out a.t.now a.w.now a.k c.loop-x.x _ w.if-has_field.false c.has_field.ensures.value
     ] in
     (omega arith, below_more (λ i. test a.t.now a.w.now a.k i ≡ true) c.loop-x.x c.loop-x.invariant.1 e)
 

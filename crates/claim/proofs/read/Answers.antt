@@ -17,7 +17,7 @@ returns-then-number_of-ne0 c =
     record {
       answer = c.take-answer.ensures.answer;
       memory = let told = c.take-answer.ensures in masks_refused (read_claim (program_in a.t.now) a.text.now) a.w.now
-            (λ z. c.if-number_of-ne0.true (c.number_of.ensures.value ∙ told.answer.0 ∙ z));
+          (λ z. c.if-number_of-ne0.true (c.number_of.ensures.value ∙ told.answer.0 ∙ z));
     }
 
 pub returns : goal.returns
@@ -27,5 +27,5 @@ returns c =
     record {
       answer = c.take-answer.ensures.answer;
       memory = let told = c.take-answer.ensures in masks_read (read_claim p a.text.now) (numbered p a.text.now) _ a.w.now told.masks
-            (sym told.answer.0 ∙ sym c.number_of.ensures.value ∙ c.if-number_of-ne0.false);
+          (sym told.answer.0 ∙ sym c.number_of.ensures.value ∙ c.if-number_of-ne0.false);
     }

@@ -1,6 +1,5 @@
 -- `claim::line::put_mask` meets its contract. Assumes nothing.
 use mathlib.Core.Path.{refl, sym, ◌∙◌}
-use borrow.Author.Tests.{not-true, not-false}
 use Rattle.claim.proofs.line.put_mask.Goals as goal
 
 pub returns-then-not-subset : goal.returns-then-not-subset

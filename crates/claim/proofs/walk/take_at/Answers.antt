@@ -14,13 +14,13 @@ returns-then-present c =
     record {
       place = c.take_frame.ensures.place;
       progress = c.take_frame.ensures.progress ∙ sym
-            (frame_there (program_in a.t.now) a.k a.a a.b c.present.result c.present.ensures.value
-            (progress_of a.text.now a.from a.w.now) c.if-present.true);
+          (frame_there (program_in a.t.now) a.k a.a a.b c.present.result c.present.ensures.value
+          (progress_of a.text.now a.from a.w.now) c.if-present.true);
     }
 
 pub returns : goal.returns
 returns c = record {
   place = let a = c.args in c.requires;
   progress = let a = c.args in sym (frame_none (program_in a.t.now) a.k a.a a.b c.present.result
-        c.present.ensures.value (progress_of a.text.now a.from a.w.now) c.if-present.false);
+      c.present.ensures.value (progress_of a.text.now a.from a.w.now) c.if-present.false);
 }

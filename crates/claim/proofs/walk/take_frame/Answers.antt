@@ -2,7 +2,6 @@
 use Rattle.program.specs.Tables.{program_in}
 use Rattle.claim.specs.Inside.{due_at}
 use Rattle.claim.proofs.FrameTaken.{frame_stopped, frame_missing, frame_broken, frame_room, frame_placed, frame_refused, frame_taken}
-use borrow.Author.Rules.{rules}
 use native.Mathlib.Omega.{arith}
 use Rattle.claim.proofs.walk.take_frame.Goals as goal
 
@@ -19,7 +18,7 @@ returns-in-End c =
     record {
       place = c.requires;
       progress = frame_missing p (due_at p a.k a.a a.b) a.text.now a.from a.w.now c.if-from-ne0.false
-            c.read_line-found.result c.read_line-found.ensures.line c.in-End.is;
+          c.read_line-found.result c.read_line-found.ensures.line c.in-End.is;
     }
 
 pub returns-in-Broken : goal.returns-in-Broken
@@ -29,7 +28,7 @@ returns-in-Broken c =
     record {
       place = c.requires;
       progress = frame_broken p (due_at p a.k a.a a.b) a.text.now a.from a.w.now c.if-from-ne0.false
-            c.read_line-found.result c.read_line-found.ensures.line c.in-Broken.is;
+          c.read_line-found.result c.read_line-found.ensures.line c.in-Broken.is;
     }
 
 pub take_line-number-requires : goal.take_line-number-requires
@@ -46,8 +45,8 @@ returns-then-number-ne0 c =
     record {
       place = c.requires;
       progress = frame_refused p (due_at p a.k a.a a.b) a.text.now a.from a.w.now c.if-from-ne0.false
-            c.read_line-found.result c.read_line-found.ensures.line c.in-Whole.digits c.in-Whole.is
-            c.take_line-number.result _ c.take_line-number.ensures.progress c.if-number-ne0.true;
+          c.read_line-found.result c.read_line-found.ensures.line c.in-Whole.digits c.in-Whole.is
+          c.take_line-number.result _ c.take_line-number.ensures.progress c.if-number-ne0.true;
     }
 
 pub returns : goal.returns
@@ -56,9 +55,9 @@ returns c =
     let p = program_in a.t.now in
     record {
       place = frame_placed p (due_at p a.k a.a a.b) a.text.now a.from a.w.now c.if-from-ne0.false
-            c.read_line-found.result c.read_line-found.ensures.line c.in-Whole.digits c.in-Whole.is
-            c.requires (omega (arith, c.well_formed));
+          c.read_line-found.result c.read_line-found.ensures.line c.in-Whole.digits c.in-Whole.is
+          c.requires (omega (arith, c.well_formed));
       progress = frame_taken p (due_at p a.k a.a a.b) a.text.now a.from a.w.now c.if-from-ne0.false
-            c.read_line-found.result c.read_line-found.ensures.line c.in-Whole.digits c.in-Whole.is
-            c.take_line-number.result _ c.take_line-number.ensures.progress c.requires (omega (arith, c.well_formed)) c.if-number-ne0.false;
+          c.read_line-found.result c.read_line-found.ensures.line c.in-Whole.digits c.in-Whole.is
+          c.take_line-number.result _ c.take_line-number.ensures.progress c.requires (omega (arith, c.well_formed)) c.if-number-ne0.false;
     }
