@@ -19,14 +19,14 @@ returns-then-number-ne0 c =
 
 pub write_tables-requires : goal.write_tables-requires
 write_tables-requires c =
-    let a = ?before in
+    let a = c.args in
     let number = c.number_of-number.ensures.value in
     tables_formed a.program.now a.memory.now c.fill-read.result c.fill-read.ensures.answer.0 c.fill-read.ensures.answer.1
     (omega (arith, number)) _ _ c.fill-read.ensures.memory
 
 pub returns : goal.returns
 returns c =
-    let a = ?before in
+    let a = c.args in
     let number = c.number_of-number.ensures.value in
     record {
       answer = (taken_answered a.program.now a.memory.now c.fill-read.result c.fill-read.ensures.answer.0 c.fill-read.ensures.answer.1

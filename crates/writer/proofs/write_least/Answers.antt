@@ -7,7 +7,7 @@ use Rattle.writer.proofs.write_least.Goals as goal
 
 pub returns : goal.returns
 returns c =
-    let start = ?before in
+    let start = c in
     let p = program_in start.args.t.now in
     let least = c.fill.ensures.least start.requires.0 start.requires.1 in
     let text = text_is p start.requires.0 _ c.fits2.ensures least in

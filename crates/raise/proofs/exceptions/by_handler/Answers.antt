@@ -49,15 +49,16 @@ loop-h-preserved c =
     )
 
 pub returns : goal.returns
-returns c made formed lm =
-    let a = c.args in
-    let p = program_in a.t.now in
-    let all : c.loop-h.h ≡ 0 = omega arith in
-    let (left, partly) = rw all at (c.loop-h.invariant.1 made) in
+returns c =
     record {
-      raised = for_mask p a.m a.pc a.mask c.common-rest.result c.classes.result c.common-rest.ensures.bits
-          (all_classes a.t.now a.s.now c.classes.result c.classes.ensures.value made)
-          _ _
-          (partial_end p a.m a.pc c.common-rest.result c.loop-h.rest left _ _ _ (partly formed lm)
-          (c.join_leaving.ensures.joined (own_inside p formed (leaving a.m) lm)));
+      raised = λ made formed lm.
+          let a = c.args in
+          let p = program_in a.t.now in
+          let all : c.loop-h.h ≡ 0 = omega arith in
+          let (left, partly) = rw all at (c.loop-h.invariant.1 made) in
+          for_mask p a.m a.pc a.mask c.common-rest.result c.classes.result c.common-rest.ensures.bits
+              (all_classes a.t.now a.s.now c.classes.result c.classes.ensures.value made)
+              _ _
+              (partial_end p a.m a.pc c.common-rest.result c.loop-h.rest left _ _ _ (partly formed lm)
+              (c.join_leaving.ensures.joined (own_inside p formed (leaving a.m) lm)));
     }

@@ -28,6 +28,9 @@ loop-k-preserved c =
     )
 
 pub returns : goal.returns
-returns c inside =
-    let all : c.loop-k.k ≡ 60 = omega arith in
-    record { raised = rw all at (c.loop-k.invariant.1 inside) }
+returns c =
+    record {
+      raised = λ inside.
+          let all : c.loop-k.k ≡ 60 = omega arith in
+          rw all at (c.loop-k.invariant.1 inside);
+    }

@@ -39,6 +39,9 @@ pub shape_of-w : goal.shape_of-w
 shape_of-w c = c.loop-r.invariant.1 ∙ sym c.requires.0
 
 pub returns : goal.returns
-returns c s t fs ft =
-    let all : c.loop-r.r ≡ c.args.n = omega arith in
-    record { raised = rw all at (c.loop-r.invariant.2 s t fs ft) }
+returns c =
+    record {
+      raised = λ s t fs ft.
+          let all : c.loop-r.r ≡ c.args.n = omega arith in
+          rw all at (c.loop-r.invariant.2 s t fs ft);
+    }

@@ -24,7 +24,7 @@ loop-i-init c =
 
 pub loop-i-preserved : goal.loop-i-preserved
 loop-i-preserved c =
-    let a = ?before in
+    let a = c.args in
     let p = program_in a.t.now in
     let q = a.q in
     let i = c.loop-i.i in
@@ -48,13 +48,19 @@ loop-i-preserved c =
     )
 
 pub returns-then-q-lt16 : goal.returns-then-q-lt16
-returns-then-q-lt16 c formed lq same =
-    let a = c.args in
-    let all : c.loop-i.i - a.from ≡ a.count - a.from = omega arith in
-    record { raised = rw all at (c.loop-i.invariant.2 formed lq same) }
+returns-then-q-lt16 c =
+    record {
+      raised = λ formed lq same.
+          let a = c.args in
+          let all : c.loop-i.i - a.from ≡ a.count - a.from = omega arith in
+          rw all at (c.loop-i.invariant.2 formed lq same);
+    }
 
 pub returns-else-q-lt16 : goal.returns-else-q-lt16
-returns-else-q-lt16 c formed lq same =
-    let a = c.args in
-    let all : c.loop-i.i - a.from ≡ a.count - a.from = omega arith in
-    record { raised = rw all at (c.loop-i.invariant.2 formed lq same) }
+returns-else-q-lt16 c =
+    record {
+      raised = λ formed lq same.
+          let a = c.args in
+          let all : c.loop-i.i - a.from ≡ a.count - a.from = omega arith in
+          rw all at (c.loop-i.invariant.2 formed lq same);
+    }

@@ -31,7 +31,10 @@ loop-k-preserved c =
     )
 
 pub returns : goal.returns
-returns c formed =
-    let a = c.args in
-    let all : c.loop-k.k ≡ class_count (program_in a.t.now) = omega (arith, c.class_count-n.ensures.value) in
-    record { raised = rw all at (c.loop-k.invariant.1 formed) }
+returns c =
+    record {
+      raised = λ formed.
+          let a = c.args in
+          let all : c.loop-k.k ≡ class_count (program_in a.t.now) = omega (arith, c.class_count-n.ensures.value) in
+          rw all at (c.loop-k.invariant.1 formed);
+    }

@@ -34,7 +34,10 @@ loop-x-preserved c =
     )
 
 pub returns : goal.returns
-returns c formed =
-    let a = c.args in
-    let all : c.loop-x.x ≡ (program_in a.t.now).statics = omega (arith, c.static_count-n.ensures.value) in
-    record { raised = rw all at (c.loop-x.invariant.1 formed) }
+returns c =
+    record {
+      raised = λ formed.
+          let a = c.args in
+          let all : c.loop-x.x ≡ (program_in a.t.now).statics = omega (arith, c.static_count-n.ensures.value) in
+          rw all at (c.loop-x.invariant.1 formed);
+    }

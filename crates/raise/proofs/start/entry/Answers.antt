@@ -39,15 +39,16 @@ loop-r-preserved c =
     )
 
 pub returns : goal.returns
-returns c formed lm =
-    let a = c.args in
-    let p = program_in a.t.now in
-    let m = a.m in
-    let all : c.loop-r.r ≡ registers p m - arguments p m = omega (arith, c.locals-n.ensures.value) in
-    let f = formed.methods m lm in
-    let inside = own_inside p formed (result_at m 0) (lm, omega (arith, f.code_from)) in
+returns c =
     record {
-      raised = raised_both (each (registers p m - arguments p m) (zero_at m)) (zero_bit ∈ result_at m 0) _ _ _
-          (rw all at (c.loop-r.invariant.1 formed lm))
-          (raised_one zero_bit c.one-2.result (result_at m 0) _ _ (c.one-2.ensures.bits (omega arith)) (c.join_result.ensures.joined inside));
+      raised = λ formed lm.
+          let a = c.args in
+          let p = program_in a.t.now in
+          let m = a.m in
+          let all : c.loop-r.r ≡ registers p m - arguments p m = omega (arith, c.locals-n.ensures.value) in
+          let f = formed.methods m lm in
+          let inside = own_inside p formed (result_at m 0) (lm, omega (arith, f.code_from)) in
+          raised_both (each (registers p m - arguments p m) (zero_at m)) (zero_bit ∈ result_at m 0) _ _ _
+              (rw all at (c.loop-r.invariant.1 formed lm))
+              (raised_one zero_bit c.one-2.result (result_at m 0) _ _ (c.one-2.ensures.bits (omega arith)) (c.join_result.ensures.joined inside));
     }

@@ -29,7 +29,10 @@ loop-x-preserved c =
     )
 
 pub returns : goal.returns
-returns c formed lk =
-    let a = c.args in
-    let all : c.loop-x.x ≡ field_count (program_in a.t.now) = omega (arith, c.field_count-n.ensures.value) in
-    record { raised = rw all at (c.loop-x.invariant.1 formed lk) }
+returns c =
+    record {
+      raised = λ formed lk.
+          let a = c.args in
+          let all : c.loop-x.x ≡ field_count (program_in a.t.now) = omega (arith, c.field_count-n.ensures.value) in
+          rw all at (c.loop-x.invariant.1 formed lk);
+    }

@@ -15,22 +15,23 @@ pub come_back-requires : goal.come_back-requires
 come_back-requires c = c.requires
 
 pub returns : goal.returns
-returns c made lq same formed lm lp =
-    let a = c.args in
-    let p = program_in a.t.now in
-    let q = a.method in
-    let on = carried p a.m a.pc (suc a.pc) in
-    let given = found (Found q) (λ callee. each a.count (argument_into p a.m a.pc a.register callee)) in
-    let back = from_callee p a.m a.pc q in
+returns c =
     record {
-      raised = raised_five on given (returned_into p a.m a.pc q)
-          (leaving_classes p a.m a.pc q (into_handler p a.m a.pc))
-          (leaving_classes p a.m a.pc q (into_leaving p a.m a.pc))
-          _
-          _
-          (raised_both on (given & back) _ _ _
-          ((rw (add-one a.pc) at c.carry-on.ensures.raised) formed lm lp)
-          (raised_both given back _ _ _
-          (all_arguments p a.m a.pc q a.count a.register _ _ (c.pass_arguments-given.ensures.raised formed lq same))
-          (c.come_back.ensures.raised made formed lm lp)));
+      raised = λ made lq same formed lm lp.
+          let a = c.args in
+          let p = program_in a.t.now in
+          let q = a.method in
+          let on = carried p a.m a.pc (suc a.pc) in
+          let given = found (Found q) (λ callee. each a.count (argument_into p a.m a.pc a.register callee)) in
+          let back = from_callee p a.m a.pc q in
+          raised_five on given (returned_into p a.m a.pc q)
+              (leaving_classes p a.m a.pc q (into_handler p a.m a.pc))
+              (leaving_classes p a.m a.pc q (into_leaving p a.m a.pc))
+              _
+              _
+              (raised_both on (given & back) _ _ _
+              ((rw (add-one a.pc) at c.carry-on.ensures.raised) formed lm lp)
+              (raised_both given back _ _ _
+              (all_arguments p a.m a.pc q a.count a.register _ _ (c.pass_arguments-given.ensures.raised formed lq same))
+              (c.come_back.ensures.raised made formed lm lp)));
     }

@@ -13,19 +13,20 @@ use Rattle.transfer.proofs.Stored.{leaving_raised}
 use Rattle.transfer.proofs.call.come_back.Goals as goal
 
 pub returns : goal.returns
-returns c made formed lm lp =
-    let a = ?before in
-    let p = program_in a.t.now in
-    let from = returned_by a.q in
-    let into = result_at a.m (suc a.pc) in
-    let joined = rw (add-one a.pc, c.returned-value.ensures.value) at c.join_result.ensures.joined in
+returns c =
     record {
-      raised = raised_both (from ⊆ into)
-          (leaving_classes p a.m a.pc a.q (into_handler p a.m a.pc)
-          & leaving_classes p a.m a.pc a.q (into_leaving p a.m a.pc))
-          _
-          _
-          _
-          (raised_into from into (claim_in a.w.now) _ (joined (own_inside p formed into (lm, lp))))
-          (leaving_raised p a.m a.pc a.q _ _ (rw c.leaving-out.ensures.value at (c.raised.ensures.raised made formed lm)));
+      raised = λ made formed lm lp.
+          let a = c.args in
+          let p = program_in a.t.now in
+          let from = returned_by a.q in
+          let into = result_at a.m (suc a.pc) in
+          let joined = rw (add-one a.pc, c.returned-value.ensures.value) at c.join_result.ensures.joined in
+          raised_both (from ⊆ into)
+              (leaving_classes p a.m a.pc a.q (into_handler p a.m a.pc)
+              & leaving_classes p a.m a.pc a.q (into_leaving p a.m a.pc))
+              _
+              _
+              _
+              (raised_into from into (claim_in a.w.now) _ (joined (own_inside p formed into (lm, lp))))
+              (leaving_raised p a.m a.pc a.q _ _ (rw c.leaving-out.ensures.value at (c.raised.ensures.raised made formed lm)));
     }

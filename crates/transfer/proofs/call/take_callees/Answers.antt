@@ -52,7 +52,10 @@ loop-q-preserved c =
     )
 
 pub returns : goal.returns
-returns c made some formed lm lp =
-    let a = c.args in
-    let all : c.loop-q.q ≡ method_count (program_in a.t.now) = omega (arith, c.method_count-n.ensures.value) in
-    record { raised = rw all at (c.loop-q.invariant.1 made some formed lm lp) }
+returns c =
+    record {
+      raised = λ made some formed lm lp.
+          let a = c.args in
+          let all : c.loop-q.q ≡ method_count (program_in a.t.now) = omega (arith, c.method_count-n.ensures.value) in
+          rw all at (c.loop-q.invariant.1 made some formed lm lp);
+    }

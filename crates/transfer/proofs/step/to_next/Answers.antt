@@ -8,9 +8,10 @@ use Rattle.transfer.proofs.Stored.{raised_last}
 use Rattle.transfer.proofs.step.to_next.Goals as goal
 
 pub returns : goal.returns
-returns c formed lm lp =
-    let a = c.args in
+returns c =
     record {
-      raised = raised_last (onward (program_in a.t.now) a.m a.pc (suc a.pc)) _ _
-          ((rw (add-one a.pc) at c.onward.ensures.raised) formed lm lp);
+      raised = λ formed lm lp.
+          let a = c.args in
+          raised_last (onward (program_in a.t.now) a.m a.pc (suc a.pc)) _ _
+              ((rw (add-one a.pc) at c.onward.ensures.raised) formed lm lp);
     }
