@@ -1,7 +1,6 @@
 -- `page::digit` meets its contract. Assumes nothing.
 use borrow.Author.Tests.{lt-ltb, le-ltb}
 use Rattle.page.specs.Digits.{digit_of}
-use borrow.Author.Rules.{rules}
 use Rattle.page.proofs.digit.Goals as goal
 
 pub returns-then-n-lt10 : goal.returns-then-n-lt10

@@ -1,10 +1,9 @@
 -- `page::put_cut` meets its contract. Assumes nothing.
-use Prim.Native.Nat.{ℕ, ◌-◌, ◌≤◌}
+use Prim.Native.Nat.{ℕ}
 use mathlib.Core.Path.{ap, ◌∙◌}
 use native.Mathlib.Nat.{le_antisymm}
 use lib.Seq.{take-length}
-use lib.ListN.{length, take}
-use Rattle.page.specs.Page.{Put}
+use lib.ListN.{take}
 use Rattle.page.proofs.Puts.{put_none, put_length, put_as, put_more}
 use borrow.Author.Rules.{rules}
 use Rattle.page.proofs.put_cut.Goals as goal

@@ -1,12 +1,7 @@
 -- `page::put_cut`: what its loops keep, and what falls.
-use Prim.Native.Nat.{ℕ, ◌-◌, ◌≤◌}
-use mathlib.Core.Path.{ap, ◌∙◌}
-use native.Mathlib.Nat.{le_antisymm}
-use lib.Seq.{take-length}
+use Prim.Native.Nat.{◌-◌, ◌≤◌}
 use lib.ListN.{length, take}
 use Rattle.page.specs.Page.{Put}
-use Rattle.page.proofs.Puts.{put_none, put_length, put_as, put_more}
-use borrow.Author.Rules.{rules}
 use Rattle.page.proofs.put_cut.Given as goal
 
 abbrev pub invariant-loop-i : goal.invariant-loop-i

@@ -1,6 +1,5 @@
 -- `page::put_eight` meets its contract. Assumes nothing.
 use Rattle.page.proofs.Puts.{put_then}
-use borrow.Author.Rules.{rules}
 use Rattle.page.proofs.put_eight.Goals as goal
 
 pub returns : goal.returns

@@ -1,6 +1,5 @@
 -- `page::put_two` meets its contract. Assumes nothing.
 use Rattle.page.proofs.Puts.{put_then}
-use borrow.Author.Rules.{rules}
 use Rattle.page.proofs.put_two.Goals as goal
 
 pub returns : goal.returns

@@ -1,11 +1,10 @@
 -- `page::put_whole` meets its contract. Assumes nothing.
 use mathlib.Core.Path.{ap, ◌∙◌}
-use Prim.Native.Nat.{ℕ, ◌+◌, ◌-◌, ◌≤◌}
+use Prim.Native.Nat.{ℕ}
 use native.Mathlib.Nat.{le_antisymm}
 use native.Mathlib.Omega.{arith}
 use lib.Seq.{take-length}
-use lib.ListN.{length, take}
-use Rattle.page.specs.Page.{Put}
+use lib.ListN.{take}
 use Rattle.page.proofs.Puts.{put_none, put_length, put_as, put_at, put_next}
 use borrow.Author.Rules.{rules}
 use Rattle.page.proofs.put_whole.Goals as goal

@@ -1,14 +1,14 @@
 -- `search::handler_for` meets its contract. The loop's invariant: found is the highest number so far that fits. The measure is how
 -- many are left. Assumes nothing.
 use mathlib.Core.Path.{◌≡◌, sym, ap, ◌∙◌}
-use mathlib.Core.Logic.{⊎_elim}
-use Prim.Native.Nat.{ℕ, suc, ◌≤◌, ◌-◌}
+use Prim.Native.Nat.{ℕ, suc, ◌-◌}
 use native.Mathlib.Omega.{arith}
 use Rattle.program.specs.Lists.{last}
 use Rattle.program.specs.Program.{handler_count}
 use Rattle.program.specs.Tables.{program_in}
 use Rattle.search.specs.Search.{catches, handling_of, handler_for}
 use Rattle.search.proofs.Searches.{handler_fits, handler_passed}
+use Rattle.search.proofs.handler_for.Goals.{then-catches, else-catches}
 use Rattle.search.proofs.handler_for.Goals as goal
 
 pub loop-left-init : goal.loop-left-init
@@ -24,10 +24,10 @@ loop-left-preserved c =
     let n = c.handler_count-n.result in
     let h = n - c.loop-left.left in
     let highest : c.if-catches.found ≡ handling_of (last (suc h) (catches p a.m a.pc a.c)) =
-    ⊎_elim
-    (λ y. y.1 ∙ sym (handler_fits p a.m a.pc a.c h (rw c.catches.ensures.value at y.0.taken)))
-    (λ y. y.1 ∙ c.loop-left.invariant.1 ∙ sym (ap handling_of (handler_passed p a.m a.pc a.c h (rw c.catches.ensures.value at y.0.left))))
-    c.if-catches.branch in
+    elim c.if-catches.branch [
+      | then-catches w ↦ w.found-is ∙ sym (handler_fits p a.m a.pc a.c h (rw c.catches.ensures.value at w.if-catches.true))
+      | else-catches w ↦ w.found-is ∙ c.loop-left.invariant.1 ∙ sym (ap handling_of (handler_passed p a.m a.pc a.c h (rw c.catches.ensures.value at w.if-catches.false)))
+    ] in
     let more : suc h ≡ n - (c.loop-left.left - 1) = omega arith in
     (omega arith, rw (← more) highest)
 

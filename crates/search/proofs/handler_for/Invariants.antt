@@ -1,13 +1,9 @@
 -- `search::handler_for`: what its loops keep, and what falls.
-use mathlib.Core.Path.{◌≡◌, sym, ap, ◌∙◌}
-use mathlib.Core.Logic.{⊎_elim}
-use Prim.Native.Nat.{ℕ, suc, ◌≤◌, ◌-◌}
-use native.Mathlib.Omega.{arith}
+use mathlib.Core.Path.{◌≡◌}
+use Prim.Native.Nat.{◌≤◌, ◌-◌}
 use Rattle.program.specs.Lists.{last}
-use Rattle.program.specs.Program.{handler_count}
 use Rattle.program.specs.Tables.{program_in}
-use Rattle.search.specs.Search.{catches, handling_of, handler_for}
-use Rattle.search.proofs.Searches.{handler_fits, handler_passed}
+use Rattle.search.specs.Search.{catches, handling_of}
 use Rattle.search.proofs.handler_for.Given as goal
 
 abbrev pub invariant-loop-left : goal.invariant-loop-left

@@ -1,12 +1,10 @@
 -- `search::method_in` meets its contract. The loop's invariant: no method before m answers. The measure is how many are left.
 -- Assumes nothing.
-use mathlib.Core.Path.{◌≡◌, sym, ap}
-use mathlib.Core.Bool.{false}
-use Prim.Native.Nat.{ℕ, ◌≤◌, ◌<◌, ◌-◌}
+use mathlib.Core.Path.{sym, ap}
+use Prim.Native.Nat.{◌≤◌, ◌<◌}
 use native.Mathlib.Omega.{arith}
 use borrow.Author.Count.{below_none, below_more}
 use Rattle.program.specs.Program.{method_count}
-use Rattle.search.specs.Search.{answers}
 use Rattle.search.specs.Number.{callee_number}
 use Rattle.program.specs.Tables.{program_in}
 use Rattle.search.proofs.Searches.{method_found, method_missing}

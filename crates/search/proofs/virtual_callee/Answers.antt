@@ -1,6 +1,5 @@
 -- `search::virtual_callee` meets its contract: the callee of the number that `seek` finds. Assumes nothing.
 use mathlib.Core.Path.{sym}
-use native.Mathlib.Omega.{arith}
 use Rattle.search.specs.Search.{virtual_callee}
 use Rattle.program.specs.Tables.{program_in}
 use Rattle.search.proofs.Numbers.{number_missing, number_found}

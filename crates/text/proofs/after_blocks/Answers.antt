@@ -1,11 +1,7 @@
 -- `text::after_blocks` meets its contract. The invariant: the run at `i` ends where the run at `at` does. The measure is what is
 -- left of the text. Assumes nothing.
-use mathlib.Core.Path.{◌≡◌, refl, sym, ◌∙◌}
-use Prim.Native.Nat.{◌+◌, ◌-◌, ◌≤◌}
+use mathlib.Core.Path.{refl, sym, ◌∙◌}
 use native.Mathlib.Omega.{arith}
-use lib.ListN.{length, drop}
-use borrow.Author.Tests.{not-false}
-use Rattle.text.specs.Run.{digit_run}
 use Rattle.text.proofs.Digits.{run_past}
 use Rattle.text.proofs.after_blocks.Goals as goal
 
@@ -21,7 +17,7 @@ returns-then-not-block c = record { place = c.loop-i.invariant.0; end = c.loop-i
 pub loop-i-preserved : goal.loop-i-preserved
 loop-i-preserved c =
     let text = c.args.text.now in
-    let digits = sym c.block.ensures.digits ∙ not-false _ c.if-not-block.false in
+    let digits = sym c.block.ensures.digits ∙ c.if-not-block.false in
     (omega arith, omega arith, c.loop-i.invariant.2 ∙ run_past text c.loop-i.i 16 (omega arith) digits)
 
 pub returns : goal.returns

@@ -1,11 +1,8 @@
 -- `text::after_blocks`: what its loops keep, and what falls.
-use mathlib.Core.Path.{◌≡◌, refl, sym, ◌∙◌}
+use mathlib.Core.Path.{◌≡◌}
 use Prim.Native.Nat.{◌+◌, ◌-◌, ◌≤◌}
-use native.Mathlib.Omega.{arith}
 use lib.ListN.{length, drop}
-use borrow.Author.Tests.{not-false}
 use Rattle.text.specs.Run.{digit_run}
-use Rattle.text.proofs.Digits.{run_past}
 use Rattle.text.proofs.after_blocks.Given as goal
 
 abbrev pub invariant-loop-i : goal.invariant-loop-i

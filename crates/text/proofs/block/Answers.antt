@@ -1,9 +1,7 @@
 -- `text::block` meets its contract. The invariant: `all` says whether the first `i` bytes are digits. The measure is how many bytes
 -- are left. Assumes nothing.
 use mathlib.Core.Path.{◌≡◌, refl, sym}
-use Prim.Native.Nat.{◌-◌, ◌≤◌}
 use native.Mathlib.Omega.{arith}
-use lib.ListN.{take, drop}
 use Rattle.text.specs.Hex.{all_digits}
 use Rattle.text.proofs.Digits.{digits_more}
 use Rattle.text.proofs.block.Goals as goal

@@ -1,10 +1,8 @@
 -- `text::block`: what its loops keep, and what falls.
-use mathlib.Core.Path.{◌≡◌, refl, sym}
+use mathlib.Core.Path.{◌≡◌}
 use Prim.Native.Nat.{◌-◌, ◌≤◌}
-use native.Mathlib.Omega.{arith}
 use lib.ListN.{take, drop}
 use Rattle.text.specs.Hex.{all_digits}
-use Rattle.text.proofs.Digits.{digits_more}
 use Rattle.text.proofs.block.Given as goal
 
 abbrev pub invariant-loop-i : goal.invariant-loop-i

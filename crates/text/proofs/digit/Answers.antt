@@ -1,5 +1,4 @@
 -- `text::digit` meets its contract: each return is one arm of `digit_of`. Assumes nothing.
-use native.Mathlib.Omega.{arith}
 use borrow.Author.Tests.{lt-ltb, le-ltb}
 use Rattle.text.specs.Hex.{digit_of}
 use Rattle.text.proofs.digit.Goals as goal

@@ -1,10 +1,8 @@
 -- `text::first`: what its loops keep, and what falls.
-use mathlib.Core.Path.{◌≡◌, refl, sym}
-use Prim.Native.Nat.{◌+◌, ◌*◌, ◌-◌, ◌^◌, ◌≤◌, ◌<◌}
-use native.Mathlib.Omega.{arith}
+use mathlib.Core.Path.{◌≡◌}
+use Prim.Native.Nat.{◌-◌, ◌≤◌}
 use lib.ListN.{take, drop}
-use Rattle.text.specs.Hex.{number_from, number_of}
-use Rattle.text.proofs.Numbers.{number_more, number_room}
+use Rattle.text.specs.Hex.{number_of}
 use Rattle.text.proofs.first.Given as goal
 
 abbrev pub invariant-loop-i : goal.invariant-loop-i

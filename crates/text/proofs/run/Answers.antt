@@ -1,16 +1,15 @@
 -- `text::run` meets its contract. The invariant: the run at `i` ends where the run at `at` does. The measure is what is left of
 -- the text. Assumes nothing.
-use mathlib.Core.Path.{◌≡◌, ◌∙◌}
-use Prim.Native.Nat.{◌+◌, ◌-◌, ◌≤◌}
+use mathlib.Core.Path.{◌∙◌}
+use Prim.Native.Nat.{◌≤◌}
 use native.Mathlib.Omega.{arith}
-use lib.ListN.{length, drop, get_or}
+use lib.ListN.{get_or}
 use Rattle.text.specs.Hex.{digit_of}
-use Rattle.text.specs.Run.{digit_run}
 use Rattle.text.proofs.Scan.{run_more, run_stop, run_end}
 use Rattle.text.proofs.run.Goals as goal
 
 pub loop-i-init : goal.loop-i-init
-loop-i-init c = c.after_blocks-i.ensures
+loop-i-init c = (c.after_blocks-i.ensures.place, c.after_blocks-i.ensures.end)
 
 pub returns-then-digit-ge16 : goal.returns-then-digit-ge16
 returns-then-digit-ge16 c =

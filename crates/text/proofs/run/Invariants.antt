@@ -1,11 +1,8 @@
 -- `text::run`: what its loops keep, and what falls.
-use mathlib.Core.Path.{◌≡◌, ◌∙◌}
+use mathlib.Core.Path.{◌≡◌}
 use Prim.Native.Nat.{◌+◌, ◌-◌, ◌≤◌}
-use native.Mathlib.Omega.{arith}
-use lib.ListN.{length, drop, get_or}
-use Rattle.text.specs.Hex.{digit_of}
+use lib.ListN.{length, drop}
 use Rattle.text.specs.Run.{digit_run}
-use Rattle.text.proofs.Scan.{run_more, run_stop, run_end}
 use Rattle.text.proofs.run.Given as goal
 
 abbrev pub invariant-loop-i : goal.invariant-loop-i

@@ -4,4 +4,4 @@ use Rattle.mask.proofs.Sets.{common_has}
 use Rattle.mask.proofs.Mask.common.Goals as goal
 
 pub returns : goal.returns
-returns c k = record { bits = common_has _ _ _ k refl }
+returns c = record { bits = λ k. common_has _ _ _ k refl }

@@ -1,7 +1,6 @@
 -- Whether a mask has a bit: the lowest bit of the mask shifted, or false past the last bit. Assumes nothing.
 use mathlib.Core.Path.{sym}
 use native.Mathlib.Omega.{arith}
-use borrow.Author.Rules.{rules}
 use Rattle.mask.proofs.Laws.{shifted_has, past_has}
 use Rattle.mask.proofs.Mask.has.Goals as goal
 

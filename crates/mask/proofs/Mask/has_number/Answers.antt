@@ -1,6 +1,5 @@
 -- Whether a mask has a number's bit: zero's, or else that of other numbers. Assumes nothing.
 use mathlib.Core.Path.{◌≡◌, sym}
-use borrow.Author.Rules.{rules}
 use Rattle.mask.specs.Mask.{has, has_number, zero_bit, other_bit}
 use Rattle.mask.proofs.Mask.has_number.Goals as goal
 

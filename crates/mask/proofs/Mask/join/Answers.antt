@@ -4,4 +4,4 @@ use Rattle.mask.proofs.Sets.{join_has}
 use Rattle.mask.proofs.Mask.join.Goals as goal
 
 pub returns : goal.returns
-returns c k = record { bits = join_has _ _ _ k refl }
+returns c = record { bits = λ k. join_has _ _ _ k refl }

@@ -2,7 +2,6 @@
 use mathlib.Core.Path.{ap}
 use native.Mathlib.Omega.{arith}
 use lib.Bits.{bit_or}
-use borrow.Author.Rules.{rules}
 use Rattle.mask.proofs.Laws.{one_shifted, with_has, with_past}
 use Rattle.mask.proofs.Mask.with.Goals as goal
 

@@ -4,4 +4,4 @@ use Rattle.mask.proofs.Sets.{without_has}
 use Rattle.mask.proofs.Mask.without.Goals as goal
 
 pub returns : goal.returns
-returns c k = record { bits = without_has _ _ _ k refl }
+returns c = record { bits = λ k. without_has _ _ _ k refl }

@@ -1,6 +1,5 @@
 -- `page::packed::digits` meets its contract. Assumes nothing.
 use Rattle.page.proofs.Bytes.{both_said}
-use borrow.Author.Rules.{rules}
 use Rattle.page.proofs.packed.digits.Goals as goal
 
 pub returns : goal.returns

@@ -3,7 +3,6 @@ use native.Mathlib.Omega.{arith}
 use lib.Bits.{and_le_r}
 use Prim.Native.Nat.{◌+◌}
 use Rattle.page.proofs.Letters.{nibbles_of, eight_made}
-use borrow.Author.Rules.{rules}
 use Rattle.page.proofs.packed.pack.Goals as goal
 
 pub overflow_mul-result : goal.overflow_mul-result

@@ -1,6 +1,5 @@
 -- `page::packed::put_sixteen` meets its contract. Assumes nothing.
 use Rattle.page.proofs.Puts.{put_then}
-use borrow.Author.Rules.{rules}
 use Rattle.page.proofs.packed.put_sixteen.Goals as goal
 
 pub returns : goal.returns

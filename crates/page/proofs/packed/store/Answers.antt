@@ -1,11 +1,10 @@
 -- `page::packed::store` meets its contract. Assumes nothing.
-use mathlib.Core.Path.{◌≡◌, refl, ap}
-use Prim.Native.Nat.{ℕ, ◌+◌, ◌-◌, ◌≤◌}
+use mathlib.Core.Path.{refl, ap}
+use Prim.Native.Nat.{ℕ}
 use native.Mathlib.Nat.{le_antisymm}
 use native.Mathlib.Omega.{arith}
 use lib.ListN.{take}
-use Rattle.page.specs.Page.{Put}
-use Rattle.page.specs.Packed.{bytes_of, shifted}
+use Rattle.page.specs.Packed.{bytes_of}
 use Rattle.page.proofs.Puts.{put_none, put_length, put_as, put_at}
 use Rattle.page.proofs.Bytes.{shifted_next, stored_next}
 use borrow.Author.Rules.{rules}

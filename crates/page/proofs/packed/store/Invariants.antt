@@ -1,14 +1,9 @@
 -- `page::packed::store`: what its loops keep, and what falls.
-use mathlib.Core.Path.{◌≡◌, refl, ap}
-use Prim.Native.Nat.{ℕ, ◌+◌, ◌-◌, ◌≤◌}
-use native.Mathlib.Nat.{le_antisymm}
-use native.Mathlib.Omega.{arith}
+use mathlib.Core.Path.{◌≡◌}
+use Prim.Native.Nat.{◌+◌, ◌-◌, ◌≤◌}
 use lib.ListN.{take}
 use Rattle.page.specs.Page.{Put}
 use Rattle.page.specs.Packed.{bytes_of, shifted}
-use Rattle.page.proofs.Puts.{put_none, put_length, put_as, put_at}
-use Rattle.page.proofs.Bytes.{shifted_next, stored_next}
-use borrow.Author.Rules.{rules}
 use Rattle.page.proofs.packed.store.Given as goal
 
 abbrev pub invariant-loop-i : goal.invariant-loop-i

@@ -1,6 +1,5 @@
 -- `text::words::repeats` meets its contract. Assumes nothing.
 use mathlib.Core.Path.{sym}
-use native.Mathlib.Omega.{arith}
 use borrow.Author.Tests.{eq-eqb, ne_eqb}
 use Rattle.text.proofs.words.repeats.Goals as goal
 
