@@ -1,5 +1,7 @@
 -- `transfer::of_instruction` meets its contract. One case an instruction. Assumes nothing.
 use mathlib.Core.Path.{refl}
+use mir.Syntax.{w32}
+use mir.ValLaws.{to_z-of_z}
 use native.Mathlib.Omega.{arith}
 use Rattle.transfer.proofs.Written.{goes_on_lem, one_operand}
 use Rattle.transfer.proofs.of_instruction.Goals as goal
@@ -22,7 +24,9 @@ pub returns-in-Const : goal.returns-in-Const
 returns-in-Const c =
     record {
       raised = λ made.
-          rw c.in-Const.is (λ r. goes_on_lem r refl c.constant.ensures.raised r.names);
+          let fits = c.in-Const.known_told-in-Const-1-own.given.1.0.1 in
+          let written = rw (to_z-of_z w32 c.in-Const.value (record { sfits = fits })) at c.constant.ensures.raised in
+          rw c.in-Const.is (λ r. goes_on_lem r refl written r.names);
     }
 
 pub returns-in-Goto : goal.returns-in-Goto
