@@ -1,8 +1,4 @@
--- General proofs of functions over a table and lent slices.
+-- Laws of the models: turns of a loop, and what keeps the lent slices' lengths.
 pub mod Driver
-pub mod Branch
-pub mod Pure
 pub mod Turns
-pub mod Loop
 pub mod Keeps
-pub mod Table

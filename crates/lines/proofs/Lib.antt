@@ -1,4 +1,2 @@
-pub mod Calls
 pub mod Cursors
 pub mod Examples
-pub mod Readers

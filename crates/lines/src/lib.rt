@@ -1,6 +1,5 @@
 // A reader of lines: a text, a place in it and the number of the line there. Program reader and claim reader both go through it.
-// The borrow checker covers no function over a struct that holds a slice, so those are thin and proved by hand; `read_line` stands above
-// them with plain parameters, and its callers are covered.
+// The functions over a reader are thin; `read_line` stands above them with plain parameters.
 #![tactic(auto)]
 
 ghost use Rattle.std.specs.Prelude.{◌≡◌, drop};

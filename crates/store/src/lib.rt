@@ -67,11 +67,8 @@ pub fn register_at(frames: &[Frame], i: usize, r: usize, other: Value) -> Value
     ensures value { result ≡ get_or (registers_of (get_or frames.now i absent_frame)) r other }
 {
     if i < frames.len() {
-        if r < 16 {
-            frames[i].registers[r]
-        } else {
-            other
-        }
+        let row: &[Value] = &frames[i].registers;
+        if r < row.len() { row[r] } else { other }
     } else {
         other
     }
@@ -81,8 +78,9 @@ pub fn put_register(frames: &mut [Frame], i: usize, r: usize, v: Value)
     ensures memory { frames.new ≡ set frames.old i (with_register (get_or frames.old i absent_frame) r v) }
 {
     if i < frames.len() {
-        if r < 16 {
-            frames[i].registers[r] = v;
+        let row: &mut [Value] = &mut frames[i].registers;
+        if r < row.len() {
+            row[r] = v;
         }
     }
 }
@@ -118,7 +116,8 @@ pub fn cell_at(objects: &[Object], i: usize, r: usize, other: Value) -> Value
     ensures value { result ≡ get_or (cells_of (get_or objects.now i absent_object)) r other }
 {
     if i < objects.len() {
-        if r < 16 { objects[i].cells[r] } else { other }
+        let row: &[Value] = &objects[i].cells;
+        if r < row.len() { row[r] } else { other }
     } else {
         other
     }
@@ -128,8 +127,9 @@ pub fn put_cell(objects: &mut [Object], i: usize, r: usize, v: Value)
     ensures memory { objects.new ≡ set objects.old i (with_cell (get_or objects.old i absent_object) r v) }
 {
     if i < objects.len() {
-        if r < 16 {
-            objects[i].cells[r] = v;
+        let row: &mut [Value] = &mut objects[i].cells;
+        if r < row.len() {
+            row[r] = v;
         }
     }
 }
@@ -158,6 +158,7 @@ pub fn put_static(statics: &mut [Value], i: usize, v: Value)
 }
 
 // ---- the first n elements, or all where there are fewer, become one value
+#[tactic(auto, using(crate::proofs::Fill::filled_more), unfolding(crate::specs::Store::filled))]
 pub fn fill_frames(frames: &mut [Frame], n: usize, f: Frame)
     ensures memory { frames.new ≡ filled n f frames.old }
 {
@@ -168,6 +169,7 @@ pub fn fill_frames(frames: &mut [Frame], n: usize, f: Frame)
     }
 }
 
+#[tactic(auto, using(crate::proofs::Fill::filled_more), unfolding(crate::specs::Store::filled))]
 pub fn fill_objects(objects: &mut [Object], n: usize, o: Object)
     ensures memory { objects.new ≡ filled n o objects.old }
 {
@@ -178,6 +180,7 @@ pub fn fill_objects(objects: &mut [Object], n: usize, o: Object)
     }
 }
 
+#[tactic(auto, using(crate::proofs::Fill::filled_more), unfolding(crate::specs::Store::filled))]
 pub fn fill_statics(statics: &mut [Value], n: usize, v: Value)
     ensures memory { statics.new ≡ filled n v statics.old }
 {

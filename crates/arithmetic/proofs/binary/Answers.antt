@@ -1,7 +1,6 @@
 -- `arithmetic::binary` meets its contract. Assumes nothing.
 use mathlib.Core.Path.{ap}
 use Prim.Native.Nat.{ℕ, ◌*◌, ◌/◌, ◌%◌, ◌^◌}
-use native.Mathlib.Omega.{arith}
 use lib.Signed.{mag_shr}
 use mir.Syntax.{w32}
 use mir.ValLaws.{to_z-of_z, sfits_le}

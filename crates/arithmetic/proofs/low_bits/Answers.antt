@@ -1,6 +1,5 @@
 -- `arithmetic::low_bits` meets its contract: a number below 0 goes by way of -1 - z. Assumes nothing.
 use mathlib.Core.Path.{ap, ◌∙◌}
-use native.Mathlib.Omega.{arith}
 use mir.Syntax.{w64}
 use mir.ValLaws.{to_z-of_z}
 use Rattle.instruction.proofs.TwosComplement.{again, cast_pos, is_pos, minus_fits, cast_neg, is_neg, turned}

@@ -1,6 +1,5 @@
 -- `command::asks_help` meets its contract. Assumes nothing.
 use mathlib.Core.Path.{sym, ◌∙◌}
-use borrow.Author.Rules.{rules}
 use Rattle.command.proofs.asks_help.Goals as goal
 
 pub returns-then-equal : goal.returns-then-equal

@@ -1,7 +1,6 @@
 -- `command::command_of` meets its contract. Assumes nothing.
 use mathlib.Core.Path.{sym, ◌∙◌}
 use borrow.Author.Tests.{eq-eqb, ne_eqb}
-use borrow.Author.Rules.{rules}
 use Rattle.command.proofs.command_of.Goals as goal
 
 pub returns-then-count-eq0 : goal.returns-then-count-eq0

@@ -1,10 +1,8 @@
 -- `command::count_of` meets its contract. Assumes nothing.
-use mathlib.Core.Path.{◌≡◌, refl, sym, ◌∙◌}
-use Prim.Native.Nat.{◌-◌, ◌≤◌}
+use mathlib.Core.Path.{refl, sym, ◌∙◌}
 use native.Mathlib.Omega.{arith}
-use lib.ListN.{length, drop}
 use borrow.Author.Rules.{rules}
-use Rattle.command.proofs.Counts.{steps_from, digit_more, digit_none, digit_from, digits_end, count_is, count_none}
+use Rattle.command.proofs.Counts.{digit_more, digit_none, digit_from, digits_end, count_is, count_none}
 use Rattle.command.proofs.count_of.Goals as goal
 
 pub returns-then-word-eq0 : goal.returns-then-word-eq0

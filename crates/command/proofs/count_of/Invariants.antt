@@ -1,10 +1,8 @@
 -- `command::count_of`: what its loops keep, and what falls.
-use mathlib.Core.Path.{◌≡◌, refl, sym, ◌∙◌}
+use mathlib.Core.Path.{◌≡◌}
 use Prim.Native.Nat.{◌-◌, ◌≤◌}
-use native.Mathlib.Omega.{arith}
 use lib.ListN.{length, drop}
-use borrow.Author.Rules.{rules}
-use Rattle.command.proofs.Counts.{steps_from, digit_more, digit_none, digit_from, digits_end, count_is, count_none}
+use Rattle.command.proofs.Counts.{steps_from}
 use Rattle.command.proofs.count_of.Given as goal
 
 abbrev pub invariant-loop-i : goal.invariant-loop-i

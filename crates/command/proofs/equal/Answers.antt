@@ -1,6 +1,5 @@
 -- `command::equal` meets its contract. Assumes nothing.
 use Rattle.command.proofs.Words.{same_is}
-use borrow.Author.Rules.{rules}
 use Rattle.command.proofs.equal.Goals as goal
 
 pub returns : goal.returns

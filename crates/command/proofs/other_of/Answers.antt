@@ -1,7 +1,6 @@
 -- `command::other_of` meets its contract. Assumes nothing.
 use mathlib.Core.Path.{sym, ◌∙◌}
 use borrow.Author.Tests.{eq-eqb, ne_eqb}
-use borrow.Author.Rules.{rules}
 use Rattle.command.proofs.other_of.Goals as goal
 
 pub returns-then-count-eq1 : goal.returns-then-count-eq1

@@ -1,6 +1,5 @@
 -- `command::step_for` meets its contract. Assumes nothing.
 use mathlib.Core.Path.{refl}
-use borrow.Author.Rules.{rules}
 use Rattle.command.proofs.step_for.Goals as goal
 
 pub returns-in-Count : goal.returns-in-Count

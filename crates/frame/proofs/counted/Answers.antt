@@ -1,6 +1,5 @@
 -- `frame::counted` meets its contract. Assumes nothing.
 use native.Mathlib.Omega.{arith}
-use borrow.Author.Rules.{rules}
 use Rattle.frame.proofs.counted.Goals as goal
 
 pub overflow_add-m : goal.overflow_add-m

@@ -1,5 +1,4 @@
 -- `frame::may_stand` meets its contract. Assumes nothing.
-use borrow.Author.Rules.{rules}
 use Rattle.frame.proofs.may_stand.Goals as goal
 
 pub returns-in-Class : goal.returns-in-Class

@@ -1,7 +1,6 @@
 -- `frame::write` meets its contract. Assumes nothing.
 use lib.Seq.{set_out}
 use mathlib.Core.Path.{sym}
-use borrow.Author.Rules.{rules}
 use Rattle.frame.proofs.write.Goals as goal
 
 pub returns-else-i-t : goal.returns-else-i-t

@@ -1,5 +1,4 @@
 -- `lines::past` meets its contract. Assumes nothing.
-use Rattle.std.proofs.Common.{rules}
 use Rattle.lines.proofs.Cursors.{past_whole}
 use Rattle.lines.proofs.past.Goals as goal
 

@@ -1,5 +1,4 @@
 -- `instruction::names_fit` meets its contract: each arm is told which instruction it has. Assumes nothing.
-use native.Mathlib.Omega.{arith}
 use Rattle.operands.proofs.names_fit.Goals as goal
 
 pub returns-in-Nop : goal.returns-in-Nop

@@ -1,7 +1,6 @@
 -- `values::instruction_mark` meets its contract: values before falling through. Assumes nothing.
 use mathlib.Core.Path.{◌≡◌, sym, ap, ◌∙◌}
 use mathlib.Core.Bool.{true, false, not}
-use borrow.Author.Tests.{not-true, not-false}
 use Rattle.instruction.specs.Test.{passes}
 use Rattle.program.specs.Tables.{program_in}
 use Rattle.values.specs.Values.{instruction_test, last_test, instruction_mark}
@@ -12,7 +11,7 @@ unfolding instruction_mark
 returns-then-not-instruction_fits c =
     let a = c.args in
     let p = program_in a.t.now in
-    let fails : passes (instruction_test p a.m a.pc) ≡ false = sym c.instruction_fits.ensures.value ∙ not-true _ c.if-not-instruction_fits.true in
+    let fails : passes (instruction_test p a.m a.pc) ≡ false = sym c.instruction_fits.ensures.value ∙ c.if-not-instruction_fits.true in
     record { value = rw fails }
 
 pub returns-then-ends_badly : goal.returns-then-ends_badly
@@ -20,7 +19,7 @@ unfolding instruction_mark
 returns-then-ends_badly c =
     let a = c.args in
     let p = program_in a.t.now in
-    let holds : passes (instruction_test p a.m a.pc) ≡ true = sym c.instruction_fits.ensures.value ∙ not-false _ c.if-not-instruction_fits.false in
+    let holds : passes (instruction_test p a.m a.pc) ≡ true = sym c.instruction_fits.ensures.value ∙ c.if-not-instruction_fits.false in
     let fails : passes (last_test p a.m a.pc) ≡ false = sym c.ends_badly.ensures.value ∙ ap not c.if-ends_badly.true in
     record { value = rw (holds, fails) }
 
@@ -29,6 +28,6 @@ unfolding instruction_mark
 returns c =
     let a = c.args in
     let p = program_in a.t.now in
-    let holds : passes (instruction_test p a.m a.pc) ≡ true = sym c.instruction_fits.ensures.value ∙ not-false _ c.if-not-instruction_fits.false in
+    let holds : passes (instruction_test p a.m a.pc) ≡ true = sym c.instruction_fits.ensures.value ∙ c.if-not-instruction_fits.false in
     let ends : passes (last_test p a.m a.pc) ≡ true = sym c.ends_badly.ensures.value ∙ ap not c.if-ends_badly.false in
     record { value = rw (holds, ends) }

@@ -1,12 +1,9 @@
 -- `values::repeated`: what its loops keep, and what falls.
-use mathlib.Core.Path.{◌≡◌, sym, ap}
+use mathlib.Core.Path.{◌≡◌}
 use mathlib.Core.Bool.{false}
 use Prim.Native.Nat.{ℕ, ◌<◌, ◌-◌}
-use native.Mathlib.Omega.{arith}
-use borrow.Author.Count.{below_none, below_more}
 use Rattle.program.specs.Tables.{program_in}
-use Rattle.program.proofs.Lists.{first_stop, first_none}
-use Rattle.values.specs.Values.{alike, some?, repeated}
+use Rattle.values.specs.Values.{alike}
 use Rattle.values.proofs.repeated.Given as goal
 
 abbrev pub invariant-loop-k : goal.invariant-loop-k
