@@ -24,14 +24,15 @@ loop-left-init c =
     (c.first_broken-broken.ensures.value, λ formed none. (λ e a. rw none (none_below e), omega (arith, most)))
 
 pub returns-then-broken-eq-NO_RULE : goal.returns-then-broken-eq-NO_RULE
-returns-then-broken-eq-NO_RULE c formed none =
-    let p = program_in c.args.t.now in
-    let said = verdict_said p (claim_in c.loop-left.w) c.loop-left.broken c.loop-left.invariant.0 in
+returns-then-broken-eq-NO_RULE c =
     record {
-      least = record {
-        accepting = said ∙ rw (eq-eqb c.loop-left.broken.rule no_rule c.if-broken-eq-NO_RULE.true);
-        below = (c.loop-left.invariant.1 formed none).0;
-      };
+      least = λ formed none.
+          let p = program_in c.args.t.now in
+          let said = verdict_said p (claim_in c.loop-left.w) c.loop-left.broken c.loop-left.invariant.0 in
+          record {
+            accepting = said ∙ rw (eq-eqb c.loop-left.broken.rule no_rule c.if-broken-eq-NO_RULE.true);
+            below = (c.loop-left.invariant.1 formed none).0;
+          };
     }
 
 pub go_on-requires : goal.go_on-requires
