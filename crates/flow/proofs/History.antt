@@ -52,7 +52,7 @@ module _ (p : Program) (c : Claim) (formed : Formed p) (asked : Asked p c) where
       (method_exists p made.frame.method made.frame.address made.at.inside) made.at.inside
       (method_exists p made.callee 0 safe.1.inside) safe.0
 
-  pub calls_in : (n : ℕ) → Every Listed (calls p n)
+  pub calls_in_lem : (n : ℕ) → Every Listed (calls p n)
   unfolding calls
   calls_in_lem zero = tt
   calls_in_lem (suc n) = more (calls_in_lem n)
@@ -104,7 +104,7 @@ module _ (p : Program) (c : Claim) (formed : Formed p) (asked : Asked p c) where
         (Reference left.object) (leaving left.method) h)
         (leavings p (suc n)) (leavings_by (stepped p (run p n)))
 
-  pub leavings_in : (n : ℕ) → Every (LeftIn (run p n).objects) (leavings p n)
+  pub leavings_in_lem : (n : ℕ) → Every (LeftIn (run p n).objects) (leavings p n)
   unfolding leavings
   leavings_in_lem zero = tt
   leavings_in_lem (suc n) = leavings_more n (leavings_in_lem n)

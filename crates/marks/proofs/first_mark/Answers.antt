@@ -5,7 +5,6 @@ use mathlib.Core.Path.{◌≡◌, ◌∙◌}
 use mathlib.Core.List.{List, ◌++◌}
 use Prim.Native.Nat.{ℕ}
 use native.Mathlib.Omega.{arith}
-use borrow.Author.Rules.{rules}
 use Rattle.program.specs.Program.{Program, method_count}
 use Rattle.program.specs.Tables.{program_in}
 use Rattle.program.proofs.Read.{classes_limit, fields_limit}

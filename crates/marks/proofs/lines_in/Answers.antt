@@ -1,5 +1,4 @@
 -- `marks::lines_in` meets its contract: each arm is told its kind. Assumes nothing.
-use borrow.Author.Rules.{rules}
 use Rattle.marks.proofs.lines_in.Goals as goal
 
 pub returns-in-Class : goal.returns-in-Class

@@ -1,5 +1,4 @@
 -- `marks::mark_at` meets its contract: each arm is told its kind. Assumes nothing.
-use borrow.Author.Rules.{rules}
 use Rattle.values.specs.Values.{value_mark}
 use Rattle.marks.proofs.mark_at.Goals as goal
 

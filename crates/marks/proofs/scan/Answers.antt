@@ -1,10 +1,10 @@
 -- `marks::scan` meets its contract. The loop's invariant: the first mark from line i on is the first mark. The measure is how
 -- many lines are left. Assumes nothing.
 use mathlib.Core.Path.{◌≡◌, sym, ◌∙◌}
-use Prim.Native.Nat.{◌+◌, ◌-◌, ◌≤◌}
+use Prim.Native.Nat.{◌+◌}
 use native.Mathlib.Omega.{arith}
 use Rattle.program.specs.Tables.{program_in}
-use Rattle.marks.specs.Marks.{lines_in, mark_at, marks_in, stop, first_mark}
+use Rattle.marks.specs.Marks.{lines_in, mark_at, marks_in, stop}
 use Rattle.marks.proofs.Bounds.{lines_limit}
 use Rattle.marks.proofs.First.{mark_from, mark_start, mark_next, mark_here, mark_end}
 use Rattle.marks.proofs.scan.Goals as goal

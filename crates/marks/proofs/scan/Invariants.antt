@@ -1,11 +1,9 @@
 -- `marks::scan`: what its loops keep, and what falls.
-use mathlib.Core.Path.{◌≡◌, sym, ◌∙◌}
-use Prim.Native.Nat.{◌+◌, ◌-◌, ◌≤◌}
-use native.Mathlib.Omega.{arith}
+use mathlib.Core.Path.{◌≡◌}
+use Prim.Native.Nat.{◌-◌, ◌≤◌}
 use Rattle.program.specs.Tables.{program_in}
-use Rattle.marks.specs.Marks.{lines_in, mark_at, marks_in, stop, first_mark}
-use Rattle.marks.proofs.Bounds.{lines_limit}
-use Rattle.marks.proofs.First.{mark_from, mark_start, mark_next, mark_here, mark_end}
+use Rattle.marks.specs.Marks.{mark_at, marks_in, first_mark}
+use Rattle.marks.proofs.First.{mark_from}
 use Rattle.marks.proofs.scan.Given as goal
 
 abbrev pub invariant-loop-i : goal.invariant-loop-i

@@ -2,7 +2,6 @@
 use mathlib.Core.Path.{◌∙◌}
 use mathlib.Core.List.{◌++◌}
 use native.Mathlib.Omega.{arith}
-use borrow.Author.Rules.{rules}
 use Rattle.program.specs.Tables.{program_in}
 use Rattle.frame.specs.declared.Kind.TheVariants.{Header, Handler, Code}
 use Rattle.marks.specs.Marks.{marks_in, method_marks}

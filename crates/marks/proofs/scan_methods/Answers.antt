@@ -1,16 +1,15 @@
 -- `marks::scan_methods` meets its contract. The loop's invariant: the first mark from method m on is the first mark, and no
 -- method has more than 41 lines. The measure is how many methods are left. Assumes nothing.
-use mathlib.Core.Path.{◌≡◌, ap, sym, ◌∙◌}
+use mathlib.Core.Path.{ap, sym, ◌∙◌}
 use mathlib.Core.List.{List}
-use Prim.Native.Nat.{ℕ, ◌+◌, ◌*◌, ◌-◌, ◌≤◌}
+use Prim.Native.Nat.{ℕ}
 use native.Mathlib.Omega.{arith}
 use Rattle.program.specs.Program.{method_count}
 use Rattle.program.specs.Tables.{program_in}
 use Rattle.program.proofs.Read.{methods_limit}
-use Rattle.program.specs.Lists.{joined}
 use Rattle.marks.specs.Marks.{method_marks, first_mark}
 use Rattle.marks.proofs.Bounds.{method_limit}
-use Rattle.marks.proofs.First.{joined_from, joined_start, joined_here, joined_on, joined_end}
+use Rattle.marks.proofs.First.{joined_start, joined_here, joined_on, joined_end}
 use Rattle.marks.proofs.scan_methods.Goals as goal
 
 pub loop-m-init : goal.loop-m-init

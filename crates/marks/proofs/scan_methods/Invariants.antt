@@ -1,15 +1,11 @@
 -- `marks::scan_methods`: what its loops keep, and what falls.
-use mathlib.Core.Path.{◌≡◌, ap, sym, ◌∙◌}
-use mathlib.Core.List.{List}
-use Prim.Native.Nat.{ℕ, ◌+◌, ◌*◌, ◌-◌, ◌≤◌}
-use native.Mathlib.Omega.{arith}
+use mathlib.Core.Path.{◌≡◌}
+use Prim.Native.Nat.{◌+◌, ◌*◌, ◌-◌, ◌≤◌}
 use Rattle.program.specs.Program.{method_count}
 use Rattle.program.specs.Tables.{program_in}
-use Rattle.program.proofs.Read.{methods_limit}
 use Rattle.program.specs.Lists.{joined}
 use Rattle.marks.specs.Marks.{method_marks, first_mark}
-use Rattle.marks.proofs.Bounds.{method_limit}
-use Rattle.marks.proofs.First.{joined_from, joined_start, joined_here, joined_on, joined_end}
+use Rattle.marks.proofs.First.{joined_from}
 use Rattle.marks.proofs.scan_methods.Given as goal
 
 abbrev pub invariant-loop-m : goal.invariant-loop-m
