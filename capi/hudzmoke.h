@@ -1,4 +1,4 @@
-/* The checker, the stepper and the claim writer of panel programs for programs in C and C++: link target/staticlib/libcapi.a (`rt staticlib capi`).
+/* The checker, the stepper and the claim writer of panel programs for programs in C and C++: link target/staticlib/libcapi.a (`capi/library` builds it).
  *
  * Every function may be called with any bytes: it tests for itself all that it relies on, ends, uses no heap, keeps nothing between calls
  * and may be called from several threads at once. docs/FORMATS.md says what texts, answers and memory mean.

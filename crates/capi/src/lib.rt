@@ -1,4 +1,4 @@
-// What programs in other languages link: functions on numbers, and on slices of numbers and of structs laid out as in C.
+// What programs in other languages call, by crate capi_c: functions on numbers, and on slices of numbers and of structs laid out as in C.
 // docs/FORMATS.md says what each word means.
 #![tactic(auto)]
 
@@ -20,8 +20,7 @@ ghost use Rattle.writer.specs.Claimed.{writing, LeastFor};
 use cells::{Frame, Object, Value};
 
 // Reads a program text: 0 where it is read, else the number of its refusal. Words 0 to 4 of the answer are that number, the line, and 0.
-#[unsafe(no_mangle)]
-pub extern "C" fn hudzmoke_read(text: &[u8], answer: &mut [u64]) -> u64
+pub fn hudzmoke_read(text: &[u8], answer: &mut [u64]) -> u64
     ensures number { result ≡ reading_number (read_program text.now) }
     ensures answer { let x = read_program text.now in
         answer.new ≡ verdict_answered (reading_number x) (reading_values x) answer.old }
@@ -33,8 +32,7 @@ pub extern "C" fn hudzmoke_read(text: &[u8], answer: &mut [u64]) -> u64
 
 // Runs a program text for at most n steps in lent memory: the number of what became of it. Words 0 to 4 of the answer are that
 // number, the steps made (or the line), the pending object and 1 (or 0), open frames and objects.
-#[unsafe(no_mangle)]
-pub extern "C" fn hudzmoke_step(
+pub fn hudzmoke_step(
     text: &[u8],
     n: u64,
     frames: &mut [Frame],
@@ -57,13 +55,7 @@ pub extern "C" fn hudzmoke_step(
 
 // Checks a claim of a program: the number of the verdict. Words 0 to 4 of the answer are that number, the calls (or rule, method and
 // address; or the line), and 0. Accepted: the call list stands at the front of memory, three bytes a call.
-#[unsafe(no_mangle)]
-pub extern "C" fn hudzmoke_check(
-    program: &[u8],
-    claim: &[u8],
-    memory: &mut [u8],
-    answer: &mut [u64],
-) -> u64
+pub fn hudzmoke_check(program: &[u8], claim: &[u8], memory: &mut [u8], answer: &mut [u64]) -> u64
     ensures number { result ≡ checking_number (checking program.now claim.now (length memory.old)) }
     ensures answer { let x = checking program.now claim.now (length memory.old) in
         answer.new ≡ verdict_answered (checking_number x) (checking_values x) answer.old }
@@ -80,8 +72,7 @@ pub extern "C" fn hudzmoke_check(
 
 // Writes the text of the least accepted claim of a program: the number of what came of it. Words 0 to 4 of the answer are that number, the
 // text's length (or the line), and 0. The text stands at the front of memory.
-#[unsafe(no_mangle)]
-pub extern "C" fn hudzmoke_write_claim(program: &[u8], memory: &mut [u8], answer: &mut [u64]) -> u64
+pub fn hudzmoke_write_claim(program: &[u8], memory: &mut [u8], answer: &mut [u64]) -> u64
     ensures number { result ≡ writing_number (writing program.now (length memory.old)) }
     ensures answer { let x = writing program.now (length memory.old) in
         answer.new ≡ verdict_answered (writing_number x) (writing_values x) answer.old }

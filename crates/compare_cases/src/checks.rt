@@ -4,7 +4,7 @@ ghost use Rattle.std.specs.Prelude.{◌≡◌, length};
 
 use super::record::Next;
 use super::{lent, number, record};
-use libc::STDOUT_FILENO;
+use std::io::Read;
 
 // Room for the longest claim.
 fn claim_space() -> [u8; 262200]
@@ -21,52 +21,57 @@ fn page() -> [u8; report::LONGEST]
 }
 
 // Checks a case in lent memory and prints the verdict.
-fn print_verdict(program: &[u8], claim: &[u8], memory: &mut [u8]) {
+fn print_verdict<R: Print>(rt: &R, program: &[u8], claim: &[u8], memory: &mut [u8]) {
     let mut out = page();
     let v = checker::check(program, claim, &mut *memory);
     let n = report::write(v, memory, &mut out);
-    io::write_all(STDOUT_FILENO, &out[..n]);
+    let _ = rt.write_all(&out[..n]);
 }
 
 // The same in memory whose bytes are counted, and the checksum of it afterwards.
-fn show(program: &[u8], claim: &[u8], memory: &mut [u8]) {
+fn show<R: Print>(rt: &R, program: &[u8], claim: &[u8], memory: &mut [u8]) {
     lent::count_bytes(&mut *memory);
-    print_verdict(program, claim, &mut *memory);
-    number::print_first(lent::mix_bytes(memory), 8);
-    io::write_all(STDOUT_FILENO, b"\n");
+    print_verdict(rt, program, claim, &mut *memory);
+    number::print_first(rt, lent::mix_bytes(memory), 8);
+    let _ = rt.write_all(b"\n");
 }
 
 // The same in as many bytes as the case asks; false where it asks more than there are.
-fn show_case(program: &[u8], claim: &[u8], size: usize) -> bool {
+fn show_case<R: Print>(rt: &R, program: &[u8], claim: &[u8], size: usize) -> bool {
     if 65600 < size {
         return false;
     }
     let mut memory = record::space();
-    show(program, claim, &mut memory[..size]);
+    show(rt, program, claim, &mut memory[..size]);
     true
 }
 
 // Reads what comes after the two texts and shows the case; false, and a line on standard error, where it cannot.
-fn show_rest(fd: i32, program: &[u8], claim: &[u8]) -> bool {
+fn show_rest<R: Print + Eprint, F: Read>(
+    rt: &R,
+    file: &mut F,
+    program: &[u8],
+    claim: &[u8],
+) -> bool {
     let mut rest = [0u8; 4];
-    if !record::fill(fd, &mut rest) {
+    if !record::fill(rt, file, &mut rest) {
         return false;
     }
-    if !show_case(program, claim, number::of_bytes(&rest) as usize) {
-        record::complain(b"too many bytes");
+    if !show_case(rt, program, claim, number::of_bytes(&rest) as usize) {
+        record::complain(rt, "too many bytes");
         return false;
     }
     true
 }
 
 // Reads what comes after a program and shows the case.
-pub fn show_claim(fd: i32, program: &[u8]) -> bool {
+pub fn show_claim<R: Print + Eprint, F: Read>(rt: &R, file: &mut F, program: &[u8]) -> bool {
     let mut claim = claim_space();
-    let next = record::fill_next(fd, &mut claim);
+    let next = record::fill_next(rt, file, &mut claim);
     match next {
-        Next::Text(size) => show_rest(fd, program, &claim[..size]),
+        Next::Text(size) => show_rest(rt, file, program, &claim[..size]),
         Next::End => {
-            record::complain(b"cut short");
+            record::complain(rt, "cut short");
             false
         }
         Next::Broken => false,

@@ -3,6 +3,8 @@
 #![tactic(auto)]
 
 use record::Next;
+use std::io::Read;
+use std::rt::Files;
 
 mod checks;
 mod digest;
@@ -24,24 +26,29 @@ enum Records {
 }
 
 // Tries a record whose text is read and prints its lines; false, and a line on standard error, where it is no record.
-fn show_record(fd: i32, records: Records, text: &[u8]) -> bool {
+fn show_record<R: Print + Eprint, F: Read>(
+    rt: &R,
+    file: &mut F,
+    records: Records,
+    text: &[u8],
+) -> bool {
     match records {
         Records::Texts => {
-            texts::show(text);
+            texts::show(rt, text);
             true
         }
-        Records::Runs => runs::show_rest(fd, text),
-        Records::Checks => checks::show_claim(fd, text),
-        Records::Writes => writes::show_rest(fd, text),
+        Records::Runs => runs::show_rest(rt, file, text),
+        Records::Checks => checks::show_claim(rt, file, text),
+        Records::Writes => writes::show_rest(rt, file, text),
     }
 }
 
 // The same for the record that comes next in a file.
-fn show_next(fd: i32, records: Records) -> Next {
+fn show_next<R: Print + Eprint, F: Read>(rt: &R, file: &mut F, records: Records) -> Next {
     let mut text = record::space();
-    let next = record::fill_next(fd, &mut text);
+    let next = record::fill_next(rt, file, &mut text);
     if let Next::Text(size) = next {
-        if !show_record(fd, records, &text[..size]) {
+        if !show_record(rt, file, records, &text[..size]) {
             return Next::Broken;
         }
     }
@@ -49,34 +56,40 @@ fn show_next(fd: i32, records: Records) -> Next {
 }
 
 // The same for every record of a file; false where the file is no sequence of records.
-fn show_file(path: &[u8], records: Records) -> bool {
-    let fd = record::open(path);
+fn show_all<R: Print + Eprint, F: Read>(rt: &R, file: &mut F, records: Records) -> bool {
     let mut next = Next::End;
     let mut left: usize = record::MOST;
     while 0 < left {
-        next = show_next(fd, records);
+        next = show_next(rt, file, records);
         left = record::left_after(next, left);
     }
-    libc::close(fd);
     record::is_whole(next)
 }
 
+// The same for a file by name; one that cannot be opened has no records.
+fn show_file<R: Files + Print + Eprint>(rt: &R, path: &str, records: Records) -> bool {
+    match record::open(rt, path) {
+        Some(mut file) => show_all(rt, &mut file, records),
+        None => true,
+    }
+}
+
 // The same for all files, as long as they are sequences of records.
-fn main() {
-    show_file(b"texts0.bin", Records::Texts)
-        && show_file(b"texts1.bin", Records::Texts)
-        && show_file(b"texts2.bin", Records::Texts)
-        && show_file(b"texts3.bin", Records::Texts)
-        && show_file(b"runs0.bin", Records::Runs)
-        && show_file(b"runs1.bin", Records::Runs)
-        && show_file(b"runs2.bin", Records::Runs)
-        && show_file(b"runs3.bin", Records::Runs)
-        && show_file(b"checks0.bin", Records::Checks)
-        && show_file(b"checks1.bin", Records::Checks)
-        && show_file(b"checks2.bin", Records::Checks)
-        && show_file(b"checks3.bin", Records::Checks)
-        && show_file(b"writes0.bin", Records::Writes)
-        && show_file(b"writes1.bin", Records::Writes)
-        && show_file(b"writes2.bin", Records::Writes)
-        && show_file(b"writes3.bin", Records::Writes);
+fn main(rt: HostRuntime) {
+    show_file(&rt, "texts0.bin", Records::Texts)
+        && show_file(&rt, "texts1.bin", Records::Texts)
+        && show_file(&rt, "texts2.bin", Records::Texts)
+        && show_file(&rt, "texts3.bin", Records::Texts)
+        && show_file(&rt, "runs0.bin", Records::Runs)
+        && show_file(&rt, "runs1.bin", Records::Runs)
+        && show_file(&rt, "runs2.bin", Records::Runs)
+        && show_file(&rt, "runs3.bin", Records::Runs)
+        && show_file(&rt, "checks0.bin", Records::Checks)
+        && show_file(&rt, "checks1.bin", Records::Checks)
+        && show_file(&rt, "checks2.bin", Records::Checks)
+        && show_file(&rt, "checks3.bin", Records::Checks)
+        && show_file(&rt, "writes0.bin", Records::Writes)
+        && show_file(&rt, "writes1.bin", Records::Writes)
+        && show_file(&rt, "writes2.bin", Records::Writes)
+        && show_file(&rt, "writes3.bin", Records::Writes);
 }

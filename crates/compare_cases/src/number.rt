@@ -2,8 +2,6 @@
 ghost use Rattle.std.specs.Prelude.{◌≡◌, ◌≤◌};
 ghost use Rattle.compare_cases.specs.Records.{bytes_from, mixed};
 
-use libc::STDOUT_FILENO;
-
 fn wide(b: u8) -> u64
     ensures { (result ≡ b) × (result ≤ 255) }
 {
@@ -49,16 +47,16 @@ fn hex(n: u64) -> [u8; 8] {
 }
 
 // Prints the low digits of a number, at most 8 of them.
-pub fn print_first(n: u64, digits: usize) {
+pub fn print_first<R: Print>(rt: &R, n: u64, digits: usize) {
     let out = hex(n);
     if digits <= 8 {
         let start = 8 - digits;
-        io::write_all(STDOUT_FILENO, &out[start..8]);
+        let _ = rt.write_all(&out[start..8]);
     }
 }
 
 // The same after a space.
-pub fn print(n: u64, digits: usize) {
-    io::write_all(STDOUT_FILENO, b" ");
-    print_first(n, digits);
+pub fn print<R: Print>(rt: &R, n: u64, digits: usize) {
+    let _ = rt.write_all(b" ");
+    print_first(rt, n, digits);
 }

@@ -1,9 +1,11 @@
 // Files of records. A record starts with a text: its length in four bytes, the high byte first, and so many bytes.
 ghost use Rattle.std.specs.Prelude.{◌≡◌, ◌-◌, ◌≤◌, length};
-ghost use Rattle.compare_cases.specs.Records.{Filled, left_after, whole};
+ghost use Rattle.compare_cases.specs.Records.{IsPrefixLen, Filled, left_after, whole};
 
 use super::number;
-use libc::STDERR_FILENO;
+use std::fs;
+use std::io::Read;
+use std::rt::Files;
 
 // What comes next in a file: a text of so many bytes, the end, or what is no record.
 #[derive(Clone, Copy)]
@@ -16,13 +18,15 @@ pub enum Next {
 // How many records of a file are read at most.
 pub const MOST: usize = 65536;
 
-// Opens a file for reading: its descriptor, or a negative number and a line on standard error.
-pub fn open(path: &[u8]) -> i32 {
-    let fd = os::open_read(path);
-    if fd < 0 {
-        os::fail(path);
+// Opens a file for reading; none, and a line on standard error, where it cannot be opened.
+pub fn open<R: Files + Eprint>(rt: &R, path: &str) -> Option<R::File> {
+    match fs::open(rt, path) {
+        Ok(file) => Some(file),
+        Err(error) => {
+            let _ = eprintln!(rt; "{path}: {error}");
+            None
+        }
     }
-    fd
 }
 
 // How many records may be left to read after this one, where so many were before it.
@@ -49,9 +53,8 @@ pub fn is_whole(next: Next) -> bool
 }
 
 // Says on standard error what is wrong with a record.
-pub fn complain(what: &[u8]) {
-    io::write_all(STDERR_FILENO, what);
-    io::write_all(STDERR_FILENO, b"\n");
+pub fn complain<R: Eprint>(rt: &R, what: &str) {
+    let _ = rt.eprintln(what);
 }
 
 // Room for the longest text.
@@ -61,24 +64,49 @@ pub fn space() -> [u8; 65600]
     [0; 65600]
 }
 
+// One read: how many bytes, 0 where it fails.
+fn read_some<F: Read>(file: &mut F, buffer: &mut [u8]) -> usize
+    ensures { IsPrefixLen result buffer.new }
+{
+    match file.read(&mut *buffer) {
+        Ok(n) => n,
+        Err(_) => 0,
+    }
+}
+
+// Reads until the buffer is full, the file ends or a read fails: how many bytes.
+fn read_full<F: Read>(file: &mut F, buffer: &mut [u8]) -> usize
+    ensures { IsPrefixLen result buffer.new }
+{
+    let mut at = 0;
+    while at < buffer.len() {
+        let n = read_some(file, &mut buffer[at..]);
+        if n == 0 {
+            return at;
+        }
+        at += n;
+    }
+    at
+}
+
 // Fills the buffer; false, and a line on standard error, where the file is too short.
-pub fn fill(fd: i32, buffer: &mut [u8]) -> bool {
-    let n = io::read_full(fd, &mut *buffer);
+pub fn fill<R: Eprint, F: Read>(rt: &R, file: &mut F, buffer: &mut [u8]) -> bool {
+    let n = read_full(file, &mut *buffer);
     if n < buffer.len() {
-        complain(b"cut short");
+        complain(rt, "cut short");
         return false;
     }
     true
 }
 
-fn fill_sized(fd: i32, size: usize, buffer: &mut [u8]) -> Next
+fn fill_sized<R: Eprint, F: Read>(rt: &R, file: &mut F, size: usize, buffer: &mut [u8]) -> Next
     ensures { Filled result buffer.new }
 {
     if buffer.len() < size {
-        complain(b"too long");
+        complain(rt, "too long");
         return Next::Broken;
     }
-    if fill(fd, &mut buffer[..size]) {
+    if fill(rt, file, &mut buffer[..size]) {
         Next::Text(size)
     } else {
         Next::Broken
@@ -86,17 +114,17 @@ fn fill_sized(fd: i32, size: usize, buffer: &mut [u8]) -> Next
 }
 
 // Fills the start of the buffer with the text that comes next.
-pub fn fill_next(fd: i32, buffer: &mut [u8]) -> Next
+pub fn fill_next<R: Eprint, F: Read>(rt: &R, file: &mut F, buffer: &mut [u8]) -> Next
     ensures { Filled result buffer.new }
 {
     let mut head = [0u8; 4];
-    let n = io::read_full(fd, &mut head);
+    let n = read_full(file, &mut head);
     if n == 0 {
         return Next::End;
     }
     if n < 4 {
-        complain(b"cut short");
+        complain(rt, "cut short");
         return Next::Broken;
     }
-    fill_sized(fd, number::of_bytes(&head) as usize, buffer)
+    fill_sized(rt, file, number::of_bytes(&head) as usize, buffer)
 }

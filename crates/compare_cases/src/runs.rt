@@ -1,6 +1,6 @@
 // Runs for the stepper, by `plain::step`: what is printed of each, its answer and a checksum of the memory that it was lent.
 use super::{lent, number, record};
-use libc::STDOUT_FILENO;
+use std::io::Read;
 
 // What a case asks for its text: at most so many steps, in so many words of frames, objects and statics.
 #[derive(Clone, Copy)]
@@ -25,34 +25,48 @@ fn case_of(rest: [u8; 14]) -> Case {
     }
 }
 
-fn print_answer(answer: &[u64; 5]) {
-    number::print_first(answer[0], 2);
-    number::print(answer[1], 8);
-    number::print(answer[2], 3);
-    number::print(answer[3], 2);
-    number::print(answer[4], 3);
+fn print_answer<R: Print>(rt: &R, answer: &[u64; 5]) {
+    number::print_first(rt, answer[0], 2);
+    number::print(rt, answer[1], 8);
+    number::print(rt, answer[2], 3);
+    number::print(rt, answer[3], 2);
+    number::print(rt, answer[4], 3);
 }
 
-fn step(text: &[u8], n: u64, frames: &mut [u64], objects: &mut [u64], statics: &mut [u64]) {
+fn step<R: Print>(
+    rt: &R,
+    text: &[u8],
+    n: u64,
+    frames: &mut [u64],
+    objects: &mut [u64],
+    statics: &mut [u64],
+) {
     let mut answer = [0u64; 5];
     let outcome = plain::step(text, n, frames, objects, statics);
     answer::put_outcome(&mut answer, outcome);
-    print_answer(&answer);
+    print_answer(rt, &answer);
 }
 
 // Runs a case in lent memory and prints its line.
-fn show(text: &[u8], n: u64, frames: &mut [u64], objects: &mut [u64], statics: &mut [u64]) {
+fn show<R: Print>(
+    rt: &R,
+    text: &[u8],
+    n: u64,
+    frames: &mut [u64],
+    objects: &mut [u64],
+    statics: &mut [u64],
+) {
     lent::count_words(&mut *frames, 4096);
     lent::count_words(&mut *objects, 8192);
     lent::count_words(&mut *statics, 16384);
-    step(text, n, &mut *frames, &mut *objects, &mut *statics);
+    step(rt, text, n, &mut *frames, &mut *objects, &mut *statics);
     let sum = lent::mix_words(objects, lent::mix_words(frames, 0));
-    number::print(lent::mix_words(statics, sum), 8);
-    io::write_all(STDOUT_FILENO, b"\n");
+    number::print(rt, lent::mix_words(statics, sum), 8);
+    let _ = rt.write_all(b"\n");
 }
 
 // The same in as many words as the case asks; false where it asks more than the papers' largest memory.
-fn show_case(text: &[u8], case: Case) -> bool {
+fn show_case<R: Print>(rt: &R, text: &[u8], case: Case) -> bool {
     let f = case.frames;
     let o = case.objects;
     let s = case.statics;
@@ -69,6 +83,7 @@ fn show_case(text: &[u8], case: Case) -> bool {
     let mut objects = [0u64; 4400];
     let mut statics = [0u64; 32];
     show(
+        rt,
         text,
         case.steps,
         &mut frames[..f],
@@ -79,13 +94,13 @@ fn show_case(text: &[u8], case: Case) -> bool {
 }
 
 // Reads what comes after a text and shows the case; false, and a line on standard error, where it cannot.
-pub fn show_rest(fd: i32, text: &[u8]) -> bool {
+pub fn show_rest<R: Print + Eprint, F: Read>(rt: &R, file: &mut F, text: &[u8]) -> bool {
     let mut rest = [0u8; 14];
-    if !record::fill(fd, &mut rest) {
+    if !record::fill(rt, file, &mut rest) {
         return false;
     }
-    if !show_case(text, case_of(rest)) {
-        record::complain(b"too many words");
+    if !show_case(rt, text, case_of(rest)) {
+        record::complain(rt, "too many words");
         return false;
     }
     true

@@ -2,44 +2,43 @@
 // checksum of it and one of its handlers' search.
 use super::{digest, handlers, number};
 use frame::Kind;
-use libc::STDOUT_FILENO;
 use reader::Answer;
 
-fn refused(n: u64, at: usize) {
-    io::write_all(STDOUT_FILENO, b"refused");
-    number::print(n, 2);
-    number::print(at as u64, 8);
+fn refused<R: Print>(rt: &R, n: u64, at: usize) {
+    let _ = rt.write_all(b"refused");
+    number::print(rt, n, 2);
+    number::print(rt, at as u64, 8);
 }
 
-fn taken(t: &[u64; 768]) {
-    io::write_all(STDOUT_FILENO, b"read");
-    number::print(program::class_count(t) as u64, 2);
-    number::print(program::field_count(t) as u64, 2);
-    number::print(program::static_count(t) as u64, 2);
-    number::print(program::method_count(t) as u64, 2);
-    number::print(digest::total(t, Kind::Code), 4);
-    number::print(digest::total(t, Kind::Handler), 4);
-    number::print(digest::checksum(t), 8);
-    number::print(handlers::checksum(t), 8);
+fn taken<R: Print>(rt: &R, t: &[u64; 768]) {
+    let _ = rt.write_all(b"read");
+    number::print(rt, program::class_count(t) as u64, 2);
+    number::print(rt, program::field_count(t) as u64, 2);
+    number::print(rt, program::static_count(t) as u64, 2);
+    number::print(rt, program::method_count(t) as u64, 2);
+    number::print(rt, digest::total(t, Kind::Code), 4);
+    number::print(rt, digest::total(t, Kind::Handler), 4);
+    number::print(rt, digest::checksum(t), 8);
+    number::print(rt, handlers::checksum(t), 8);
 }
 
 // Reads a text into the tables and prints its line.
-fn show_by(text: &[u8], t: &mut [u64; 768]) {
+fn show_by<R: Print>(rt: &R, text: &[u8], t: &mut [u64; 768]) {
     let answer = reader::read(text, &mut *t);
     match answer {
-        Answer::Read => taken(t),
-        Answer::TooLong => refused(1, 0),
-        Answer::BadLine(at) => refused(2, at),
-        Answer::BadFrame(at) => refused(3, at),
-        Answer::OutOfOrder(at) => refused(4, at),
-        Answer::BadValue(at) => refused(5, at),
-        Answer::FallsThrough(at) => refused(6, at),
+        Answer::Read => taken(rt, t),
+        Answer::TooLong => refused(rt, 1, 0),
+        Answer::BadLine(at) => refused(rt, 2, at),
+        Answer::BadFrame(at) => refused(rt, 3, at),
+        Answer::OutOfOrder(at) => refused(rt, 4, at),
+        Answer::BadValue(at) => refused(rt, 5, at),
+        Answer::FallsThrough(at) => refused(rt, 6, at),
     }
-    io::write_all(STDOUT_FILENO, b"\n");
+    let _ = rt.write_all(b"\n");
 }
 
 // The same in tables of its own.
-pub fn show(text: &[u8]) {
+pub fn show<R: Print>(rt: &R, text: &[u8]) {
     let mut t = [0u64; 768];
-    show_by(text, &mut t);
+    show_by(rt, text, &mut t);
 }

@@ -3,8 +3,8 @@
 ghost use Rattle.std.specs.Prelude.{◌≡◌, length};
 
 use super::{lent, number, record};
-use libc::STDOUT_FILENO;
 use output::Output;
+use std::io::Read;
 
 // Room for more than the longest text.
 fn memory_space() -> [u8; 196608]
@@ -13,51 +13,51 @@ fn memory_space() -> [u8; 196608]
     [0; 196608]
 }
 
-fn print_refused(number: usize, line: usize) {
-    io::write_all(STDOUT_FILENO, b"refused");
-    number::print(number as u64, 2);
-    number::print(line as u64, 8);
+fn print_refused<R: Print>(rt: &R, number: usize, line: usize) {
+    let _ = rt.write_all(b"refused");
+    number::print(rt, number as u64, 2);
+    number::print(rt, line as u64, 8);
 }
 
 // Prints what came of a call.
-fn print_output(o: Output) {
+fn print_output<R: Print>(rt: &R, o: Output) {
     match o {
         Output::Written(count) => {
-            io::write_all(STDOUT_FILENO, b"written");
-            number::print(count as u64, 8);
+            let _ = rt.write_all(b"written");
+            number::print(rt, count as u64, 8);
         }
-        Output::Refused { number, line } => print_refused(number, line),
-        Output::Short => print_refused(23, 0),
+        Output::Refused { number, line } => print_refused(rt, number, line),
+        Output::Short => print_refused(rt, 23, 0),
     }
-    io::write_all(STDOUT_FILENO, b"\n");
+    let _ = rt.write_all(b"\n");
 }
 
 // Writes the claim of a panel to memory whose bytes are counted; prints what came of it, and the checksum of the memory afterwards.
-fn show(program: &[u8], memory: &mut [u8]) {
+fn show<R: Print>(rt: &R, program: &[u8], memory: &mut [u8]) {
     lent::count_bytes(&mut *memory);
-    print_output(writer::write_claim(program, &mut *memory));
-    number::print_first(lent::mix_bytes(memory), 8);
-    io::write_all(STDOUT_FILENO, b"\n");
+    print_output(rt, writer::write_claim(program, &mut *memory));
+    number::print_first(rt, lent::mix_bytes(memory), 8);
+    let _ = rt.write_all(b"\n");
 }
 
 // The same in as many bytes as the case asks; false where it asks more than there are.
-fn show_case(program: &[u8], size: usize) -> bool {
+fn show_case<R: Print>(rt: &R, program: &[u8], size: usize) -> bool {
     if 196608 < size {
         return false;
     }
     let mut memory = memory_space();
-    show(program, &mut memory[..size]);
+    show(rt, program, &mut memory[..size]);
     true
 }
 
 // Reads what comes after a panel and shows the case; false, and a line on standard error, where it cannot.
-pub fn show_rest(fd: i32, program: &[u8]) -> bool {
+pub fn show_rest<R: Print + Eprint, F: Read>(rt: &R, file: &mut F, program: &[u8]) -> bool {
     let mut rest = [0u8; 4];
-    if !record::fill(fd, &mut rest) {
+    if !record::fill(rt, file, &mut rest) {
         return false;
     }
-    if !show_case(program, number::of_bytes(&rest) as usize) {
-        record::complain(b"too many bytes");
+    if !show_case(rt, program, number::of_bytes(&rest) as usize) {
+        record::complain(rt, "too many bytes");
         return false;
     }
     true

@@ -47,6 +47,7 @@ pub struct Step {
 }
 
 // The kind that a frame's first byte says.
+#[tactic(auto, unfolding(crate::specs::Frame::kind_of))]
 pub fn kind_of(n: u64) -> Kind
     ensures value { result ≡ kind_of n }
 {

@@ -1,6 +1,3 @@
--- The walks of the loops, and that they end.
-pub mod Falls
+-- The stepper's loops end, and keep the lent slices' lengths.
 pub mod Fewer
-pub mod WalkOne
-pub mod WalkForth
-pub mod WalkBack
+pub mod Falls

@@ -45,6 +45,7 @@ fn stay(
 }
 
 // The steps that stay in the top frame, and one that does not.
+#[tactic(auto, unfolding(crate::specs::Rounds::forth_done))]
 fn forth(
     t: &[u64; 768],
     frames: &mut [Frame],

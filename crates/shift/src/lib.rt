@@ -150,6 +150,7 @@ fn register_of(opcode: u8, word: u64) -> u8
 }
 
 // Which values the step looks at.
+#[tactic(auto, unfolding(crate::specs::Places::look_of))]
 pub fn looked(h: At) -> Look
     ensures value { result ≡ look_of h }
 {

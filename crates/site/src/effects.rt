@@ -114,6 +114,7 @@ fn signed(w: u64) -> i32
 }
 
 // The instructions that look at no object and no static, but for `if` and binop.
+#[tactic(auto, unfolding(crate::specs::Work::plain_of))]
 pub fn plain(w: u64, x: Value, z: Value) -> Effect
     ensures value { (p : Program) → (y : machine.Value) → (k : ℕ) → result ≡ decided p (value_of x) y (value_of z) k (plain_of w) }
 {
@@ -142,6 +143,7 @@ pub fn plain(w: u64, x: Value, z: Value) -> Effect
     }
 }
 
+#[tactic(auto, unfolding(crate::specs::Work::branch_of))]
 pub fn branch(w: u64, x: Value, y: Value) -> Effect
     ensures value { (p : Program) → (z : machine.Value) → (k : ℕ) → result ≡ decided p (value_of x) (value_of y) z k (branch_of w) }
 {
@@ -160,6 +162,7 @@ pub fn branch(w: u64, x: Value, y: Value) -> Effect
 }
 
 // instance-of and check-cast.
+#[tactic(auto, unfolding(crate::specs::Work::classed_of))]
 pub fn classed(t: &[u64; 768], w: u64, x: Value, k: u32) -> Effect
     ensures value { (y z : machine.Value) → result ≡ decided (program_in t.now) (value_of x) y z k (classed_of w) }
 {

@@ -12,6 +12,7 @@ use super::{How, Site, Work, effects, field_a, field_b, field_c, field_d};
 use cells::Value;
 use machine::Effect;
 
+#[tactic(auto, unfolding(crate::specs::Work::decided_in))]
 pub fn plain_work(
     t: &[u64; 768],
     s: Site,
@@ -28,6 +29,7 @@ pub fn plain_work(
     effects::work_of(s.pc, v, g, e)
 }
 
+#[tactic(auto, unfolding(crate::specs::Work::decided_in))]
 pub fn branch_work(
     t: &[u64; 768],
     s: Site,
@@ -49,6 +51,7 @@ pub fn branch_work(
     }
 }
 
+#[tactic(auto, unfolding(crate::specs::Work::decided_in))]
 pub fn binop_work(
     t: &[u64; 768],
     s: Site,
@@ -71,6 +74,7 @@ pub fn binop_work(
     }
 }
 
+#[tactic(auto, unfolding(crate::specs::Work::decided_in))]
 pub fn iget_work(
     t: &[u64; 768],
     s: Site,
@@ -98,6 +102,7 @@ pub fn iget_work(
     }
 }
 
+#[tactic(auto, unfolding(crate::specs::Work::decided_in))]
 pub fn iput_work(
     t: &[u64; 768],
     s: Site,
@@ -124,6 +129,7 @@ pub fn iput_work(
     }
 }
 
+#[tactic(auto, unfolding(crate::specs::Work::decided_in))]
 pub fn sget_work(
     t: &[u64; 768],
     s: Site,
@@ -139,6 +145,7 @@ pub fn sget_work(
     effects::wrote(s.pc, field_a(s.word), g)
 }
 
+#[tactic(auto, unfolding(crate::specs::Work::decided_in))]
 pub fn sput_work(
     t: &[u64; 768],
     s: Site,
@@ -154,6 +161,7 @@ pub fn sput_work(
     effects::kept(s.pc, field_b(s.word), cells::normal(x))
 }
 
+#[tactic(auto, unfolding(crate::specs::Work::decided_in))]
 pub fn class_work(
     t: &[u64; 768],
     s: Site,

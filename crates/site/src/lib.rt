@@ -63,30 +63,35 @@ pub struct Work {
     pub address: u32,
 }
 
+#[tactic(auto, unfolding(crate::specs::Site::opcode_of))]
 pub fn opcode(w: u64) -> u8
     ensures value { result ≡ opcode_of w }
 {
     (w / 72057594037927936) as u8
 }
 
+#[tactic(auto, unfolding(crate::specs::Site::a_of))]
 pub fn field_a(w: u64) -> u8
     ensures value { result ≡ a_of w }
 {
     (w / 281474976710656 % 256) as u8
 }
 
+#[tactic(auto, unfolding(crate::specs::Site::b_of))]
 pub fn field_b(w: u64) -> u8
     ensures value { result ≡ b_of w }
 {
     (w / 1099511627776 % 256) as u8
 }
 
+#[tactic(auto, unfolding(crate::specs::Site::c_of))]
 pub fn field_c(w: u64) -> u8
     ensures value { result ≡ c_of w }
 {
     (w / 4294967296 % 256) as u8
 }
 
+#[tactic(auto, unfolding(crate::specs::Site::d_of))]
 pub fn field_d(w: u64) -> u32
     ensures value { result ≡ d_of w }
 {
@@ -121,6 +126,7 @@ fn second_of(o: u8, w: u64) -> u8
 }
 
 // Which values the instruction looks at. A register's number is below 16: so no test of it is compiled.
+#[tactic(auto, unfolding(crate::specs::Site::want_of))]
 pub fn wanted(s: Site) -> Want
     ensures value { result ≡ want_of s }
 {

@@ -1,33 +1,58 @@
-// Files by name. What is said of them goes to the descriptor `told`, and the system's reason, by `os::fail`, to standard error.
+// Files by name. What is said of them goes to `told`, and the system's reason to standard error.
 ghost use Rattle.tool.specs.Files.{Filled};
 
-// What came of a file: so many bytes, or a read that failed.
+use std::io::{Cursor, Read, Write};
+use std::rt::Files;
+use std::{fs, io, str};
+
+// What came of a file: so many bytes, or a read that failed, and why.
 #[derive(Clone, Copy)]
 pub enum Got {
     Bytes(usize),
-    Failed,
+    Failed(io::Error),
+}
+
+// What the system says of an error, without the number that std writes after it.
+fn reason<'a>(error: io::Error, room: &'a mut [u8]) -> &'a str {
+    let mut cursor = Cursor::new(&mut *room);
+    let _ = write!(cursor, "{error}");
+    let text = str::from_utf8(room).unwrap_or("");
+    let line = text.trim_end_matches('\0');
+    match line.split_once(" (os error ") {
+        Some((words, _)) => words,
+        None => line,
+    }
+}
+
+// Says on standard error why the system refused what has this name.
+pub fn fail<R: Eprint>(rt: &R, name: &[u8], error: io::Error) {
+    let mut room = [0u8; 512];
+    let words = reason(error, &mut room);
+    let _ = match str::from_utf8(name) {
+        Ok(text) => eprintln!(rt; "{text}: {words}"),
+        Err(_) => eprintln!(rt; "{}: {words}", name.escape_ascii()),
+    };
 }
 
 // One read.
-fn read_some(fd: i32, buffer: &mut [u8]) -> Got
+fn read_some<F: Read>(file: &mut F, buffer: &mut [u8]) -> Got
     ensures bytes { Filled result buffer.new }
 {
-    let got = libc::read(fd, &mut *buffer);
-    if got < 0 {
-        return Got::Failed;
+    match file.read(&mut *buffer) {
+        Ok(n) => Got::Bytes(n),
+        Err(error) => Got::Failed(error),
     }
-    Got::Bytes(io::count(got, buffer))
 }
 
 // Reads until the buffer is full or the file ends.
-fn read_all(fd: i32, buffer: &mut [u8]) -> Got
+fn read_all<F: Read>(file: &mut F, buffer: &mut [u8]) -> Got
     ensures bytes { Filled result buffer.new }
 {
     let mut at = 0;
     while at < buffer.len() {
-        let got = read_some(fd, &mut buffer[at..]);
+        let got = read_some(file, &mut buffer[at..]);
         let Got::Bytes(n) = got else {
-            return Got::Failed;
+            return got;
         };
         if n == 0 {
             return Got::Bytes(at);
@@ -38,28 +63,43 @@ fn read_all(fd: i32, buffer: &mut [u8]) -> Got
 }
 
 // Says that a read failed.
-fn complain(path: &[u8], got: Got, told: i32) {
+fn complain<R: Eprint, T: Print>(rt: &R, path: &[u8], got: Got, told: &T) {
     match got {
         Got::Bytes(_) => {}
-        Got::Failed => {
-            os::fail(path);
-            io::write_all(told, b"nothing is printed where a file cannot be read\n");
+        Got::Failed(error) => {
+            fail(rt, path, error);
+            let _ = told.write_all(b"nothing is printed where a file cannot be read\n");
         }
     }
 }
 
+// Opens a file for reading. Its name must be text.
+fn open<R: Files>(rt: &R, path: &[u8]) -> io::Result<R::File> {
+    match str::from_utf8(path) {
+        Ok(name) => fs::open(rt, name),
+        Err(_) => Err(io::Error::new(io::ErrorKind::InvalidInput, "the name is not UTF-8")),
+    }
+}
+
 // Reads a file to the start of the buffer, as much of it as goes in. One that cannot be opened is said, and empty.
-pub fn read_file(path: &[u8], buffer: &mut [u8], told: i32) -> Got
+pub fn read_file<R: Files + Eprint, T: Print>(
+    rt: &R,
+    path: &[u8],
+    buffer: &mut [u8],
+    told: &T,
+) -> Got
     ensures bytes { Filled result buffer.new }
 {
-    let fd = os::open_read(path);
-    if fd < 0 {
-        os::fail(path);
-        io::write_all(told, b"a file that cannot be opened counts as empty\n");
-        return Got::Bytes(0);
+    match open(rt, path) {
+        Ok(mut file) => {
+            let got = read_all(&mut file, &mut *buffer);
+            complain(rt, path, got, told);
+            got
+        }
+        Err(error) => {
+            fail(rt, path, error);
+            let _ = told.write_all(b"a file that cannot be opened counts as empty\n");
+            Got::Bytes(0)
+        }
     }
-    let got = read_all(fd, &mut *buffer);
-    complain(path, got, told);
-    libc::close(fd);
-    got
 }

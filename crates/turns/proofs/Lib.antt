@@ -1,6 +1,2 @@
--- What the proofs of a step that leaves its frame use.
+-- What the proofs of steps that leave their frame use, and the crates above.
 pub mod Keeps
-pub mod Passing
-pub mod Callees
-pub mod Writes
-pub mod Shifts

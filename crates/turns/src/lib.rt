@@ -1,5 +1,5 @@
 // Steps that do not stay in their frame, done in the lent slices. The functions of one kind of step differ in what it comes to
-// alone: one proof serves them all.
+// alone.
 #![tactic(auto)]
 
 mod dispatch; // dispatch.rt: what a run has come to, by its kind
@@ -50,6 +50,7 @@ fn pass(
 }
 
 // new-instance.
+#[tactic(auto, unfolding(crate::specs::Turns::shift_done))]
 fn make(
     t: &[u64; 768],
     frames: &mut [Frame],
@@ -81,6 +82,7 @@ fn make(
 }
 
 // An instruction that raises a new object.
+#[tactic(auto, unfolding(crate::specs::Turns::shift_done))]
 fn raise_new(
     t: &[u64; 768],
     frames: &mut [Frame],
@@ -112,6 +114,7 @@ fn raise_new(
 }
 
 // invoke-static.
+#[tactic(auto, unfolding(crate::specs::Turns::shift_done))]
 fn call_static(
     t: &[u64; 768],
     frames: &mut [Frame],
@@ -143,6 +146,7 @@ fn call_static(
 }
 
 // invoke-virtual.
+#[tactic(auto, unfolding(crate::specs::Turns::shift_done))]
 fn call_virtual(
     t: &[u64; 768],
     frames: &mut [Frame],
@@ -174,6 +178,7 @@ fn call_virtual(
 }
 
 // return and return-void.
+#[tactic(auto, unfolding(crate::specs::Turns::shift_done))]
 fn leave(
     t: &[u64; 768],
     frames: &mut [Frame],
@@ -205,6 +210,7 @@ fn leave(
 }
 
 // throw.
+#[tactic(auto, unfolding(crate::specs::Turns::shift_done))]
 fn raise(
     t: &[u64; 768],
     frames: &mut [Frame],
@@ -236,6 +242,7 @@ fn raise(
 }
 
 // A step with an object pending.
+#[tactic(auto, unfolding(crate::specs::Turns::shift_done))]
 pub fn unwind(
     t: &[u64; 768],
     frames: &mut [Frame],

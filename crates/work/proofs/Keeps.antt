@@ -6,7 +6,7 @@ use lib.Dec.{eqb}
 use lib.ListN.{length-set}
 use Rattle.site.specs.declared.Site.{Site}
 use Rattle.site.specs.Site.{is_class, leaves_of}
-use Rattle.drive.specs.Models.{Lent, done}
+use Rattle.drive.specs.Models.{Lent}
 use Rattle.drive.proofs.Driver.{Same}
 use Rattle.drive.proofs.Keeps.{same_self, pick_keeps}
 use Rattle.work.specs.Work.{Working, worked, work_in, wrote_frames, binop_done, branch_done, iget_done, iput_done, sget_done, sput_done, class_done, plain_done, leave_done, binop_working, branch_working, iget_working, iput_working, sget_working, sput_working, class_working, plain_working, performed, from_branch, from_iget, from_iput, from_sget, from_sput, from_leaving, from_class}

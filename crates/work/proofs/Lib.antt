@@ -1,4 +1,2 @@
--- What the proofs of an instruction in the slices use.
-pub mod Callees
-pub mod Working
+-- What the crates above use of instructions that stay in their frame.
 pub mod Keeps

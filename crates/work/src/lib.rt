@@ -1,5 +1,5 @@
 // Instructions that stay in their frame, done in the lent slices. The functions of one instruction differ in what it comes to
-// alone: one proof serves them all.
+// alone.
 #![tactic(auto)]
 
 ghost use Rattle.std.specs.Prelude.{◌≡◌};
@@ -11,6 +11,7 @@ use cells::{Frame, Object, Value};
 use site::{Gone, Site};
 
 // binop.
+#[tactic(auto, unfolding(crate::specs::Work::worked))]
 fn binop(
     t: &[u64; 768],
     frames: &mut [Frame],
@@ -38,6 +39,7 @@ fn binop(
 }
 
 // if.
+#[tactic(auto, unfolding(crate::specs::Work::worked))]
 fn branch(
     t: &[u64; 768],
     frames: &mut [Frame],
@@ -65,6 +67,7 @@ fn branch(
 }
 
 // iget.
+#[tactic(auto, unfolding(crate::specs::Work::worked))]
 fn get_field(
     t: &[u64; 768],
     frames: &mut [Frame],
@@ -92,6 +95,7 @@ fn get_field(
 }
 
 // iput.
+#[tactic(auto, unfolding(crate::specs::Work::worked))]
 fn put_field(
     t: &[u64; 768],
     frames: &mut [Frame],
@@ -119,6 +123,7 @@ fn put_field(
 }
 
 // sget.
+#[tactic(auto, unfolding(crate::specs::Work::worked))]
 fn get_static(
     t: &[u64; 768],
     frames: &mut [Frame],
@@ -146,6 +151,7 @@ fn get_static(
 }
 
 // sput.
+#[tactic(auto, unfolding(crate::specs::Work::worked))]
 fn store_static(
     t: &[u64; 768],
     frames: &mut [Frame],
@@ -173,6 +179,7 @@ fn store_static(
 }
 
 // instance-of and check-cast.
+#[tactic(auto, unfolding(crate::specs::Work::worked))]
 fn classes(
     t: &[u64; 768],
     frames: &mut [Frame],
@@ -200,6 +207,7 @@ fn classes(
 }
 
 // move, const, goto, unop, move-result, move-exception, nop.
+#[tactic(auto, unfolding(crate::specs::Work::worked))]
 fn plain(
     t: &[u64; 768],
     frames: &mut [Frame],

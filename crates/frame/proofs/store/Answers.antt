@@ -6,4 +6,6 @@ use mathlib.Core.Path.{◌∙◌, ap}
 use Rattle.frame.proofs.store.Goals as goal
 
 pub returns : goal.returns
-returns c = record { memory = c.write-2.ensures.memory ∙ ap (λ (l : List ℕ). set l c.args.at.count c.args.at.value) c.write.ensures.memory }
+returns c = record {
+  memory = c.write-2.ensures.memory ∙ ap (λ (l : List ℕ). set l c.args.at.count c.args.at.value) c.write.ensures.memory;
+}

@@ -79,7 +79,8 @@ returns c =
     let p = program_in c.args.t.now in
     record {
       value = c.scan_methods.ensures.value
-          ∙ go_on (marks_in p Static 0) (after_statics p) c.scan-fields.result.line _ c.scan-statics.ensures.value (no_static p c.scan-fields.result.line _ c.scan-statics.ensures.value)
+          ∙ go_on (marks_in p Static 0) (after_statics p) c.scan-fields.result.line _ c.scan-statics.ensures.value
+          (no_static p c.scan-fields.result.line _ c.scan-statics.ensures.value)
           ∙ go_on (marks_in p Field 0) (after_fields p) c.scan-classes.result.line _ c.scan-fields.ensures.value c.if-fields-ne0.false
           ∙ go_on (marks_in p Class 0) (after_classes p) 1 _ c.scan-classes.ensures.value c.if-classes-ne0.false;
     }

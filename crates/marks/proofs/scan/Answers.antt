@@ -26,7 +26,8 @@ returns-then-mark-ne0 c =
     let a = c.args in
     let n = c.lines_in-n.result in
     let f = mark_at (program_in a.t.now) a.k a.m in
-    let here : mark_from n f a.line c.loop-i.i ≡ stop (f c.loop-i.i) (a.line + c.loop-i.i) = mark_here n f a.line c.loop-i.i (omega arith) (λ e. c.if-mark-ne0.true (c.mark_at-mark.ensures.value ∙ e)) in
+    let here : mark_from n f a.line c.loop-i.i ≡ stop (f c.loop-i.i) (a.line + c.loop-i.i) =
+    mark_here n f a.line c.loop-i.i (omega arith) (λ e. c.if-mark-ne0.true (c.mark_at-mark.ensures.value ∙ e)) in
     record { value = cc }
 
 pub loop-i-preserved : goal.loop-i-preserved

@@ -14,7 +14,10 @@ unfolding method_marks
 returns-then-header-ne0 c =
     let a = c.args in
     let p = program_in a.t.now in
-    record { value = stop_here (marks_in p Header a.m) (marks_in p Code a.m ++ marks_in p Handler a.m) a.line _ c.scan-header.ensures.value c.if-header-ne0.true }
+    record {
+      value = stop_here (marks_in p Header a.m) (marks_in p Code a.m ++ marks_in p Handler a.m) a.line _
+          c.scan-header.ensures.value c.if-header-ne0.true;
+    }
 
 pub scan-code-requires : goal.scan-code-requires
 scan-code-requires c =
@@ -27,8 +30,10 @@ returns-then-code-ne0 c =
     let a = c.args in
     let p = program_in a.t.now in
     record {
-      value = stop_here (marks_in p Code a.m) (marks_in p Handler a.m) c.scan-header.result.line _ c.scan-code.ensures.value c.if-code-ne0.true
-          ∙ go_on (marks_in p Header a.m) (marks_in p Code a.m ++ marks_in p Handler a.m) a.line _ c.scan-header.ensures.value c.if-header-ne0.false;
+      value = stop_here (marks_in p Code a.m) (marks_in p Handler a.m) c.scan-header.result.line _
+          c.scan-code.ensures.value c.if-code-ne0.true
+          ∙ go_on (marks_in p Header a.m) (marks_in p Code a.m ++ marks_in p Handler a.m) a.line _
+          c.scan-header.ensures.value c.if-header-ne0.false;
     }
 
 pub scan-requires : goal.scan-requires
@@ -50,5 +55,6 @@ returns c =
     record {
       value = c.scan.ensures.value
           ∙ go_on (marks_in p Code a.m) (marks_in p Handler a.m) c.scan-header.result.line _ c.scan-code.ensures.value c.if-code-ne0.false
-          ∙ go_on (marks_in p Header a.m) (marks_in p Code a.m ++ marks_in p Handler a.m) a.line _ c.scan-header.ensures.value c.if-header-ne0.false;
+          ∙ go_on (marks_in p Header a.m) (marks_in p Code a.m ++ marks_in p Handler a.m) a.line _
+          c.scan-header.ensures.value c.if-header-ne0.false;
     }

@@ -28,7 +28,8 @@ pub returns-then-s-ne0 : goal.returns-then-s-ne0
 returns-then-s-ne0 c =
     let a = c.args in
     record {
-      value = joined_here c.method_count-n.result (method_marks (program_in a.t.now)) c.loop-m.m c.loop-m.at (omega arith) _ c.scan_method-s.ensures.value c.if-s-ne0.true
+      value = joined_here c.method_count-n.result (method_marks (program_in a.t.now)) c.loop-m.m c.loop-m.at (omega arith) _
+          c.scan_method-s.ensures.value c.if-s-ne0.true
           ∙ sym c.loop-m.invariant.2;
     }
 
@@ -38,7 +39,8 @@ loop-m-preserved c =
       omega arith,
       omega (arith, method_limit a.t.now c.loop-m.m c.loop-m.at _ c.scan_method-s.ensures.value),
       c.loop-m.invariant.2
-          ∙ joined_on c.method_count-n.result (method_marks (program_in a.t.now)) c.loop-m.m c.loop-m.at (omega arith) _ c.scan_method-s.ensures.value c.if-s-ne0.false,
+          ∙ joined_on c.method_count-n.result (method_marks (program_in a.t.now)) c.loop-m.m c.loop-m.at (omega arith) _
+          c.scan_method-s.ensures.value c.if-s-ne0.false,
     )
 
 pub returns : goal.returns

@@ -12,7 +12,8 @@ abbrev pub invariant-loop-m : goal.invariant-loop-m
 invariant-loop-m l =
     (l.m ≤ l.n)
     × (l.at ≤ l.line + 41 * l.m)
-    × (first_mark (joined (method_count (program_in l.t)) (method_marks (program_in l.t))) l.line ≡ first_mark (joined_from l.n (method_marks (program_in l.t)) l.m) l.at)
+    × (first_mark (joined (method_count (program_in l.t)) (method_marks (program_in l.t))) l.line
+    ≡ first_mark (joined_from l.n (method_marks (program_in l.t)) l.m) l.at)
 
 abbrev pub decreases-loop-m : goal.decreases-loop-m
 decreases-loop-m l = l.n - l.m

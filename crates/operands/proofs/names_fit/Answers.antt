@@ -1,4 +1,4 @@
--- `instruction::names_fit` meets its contract: each arm is told which instruction it has. Assumes nothing.
+-- `operands::names_fit` meets its contract: each arm is told which instruction it has. Assumes nothing.
 use Rattle.operands.proofs.names_fit.Goals as goal
 
 pub returns-in-Nop : goal.returns-in-Nop
@@ -41,10 +41,22 @@ pub returns-in-Sput : goal.returns-in-Sput
 returns-in-Sput c = record { value = rw (c.in-Sput.is, c.two-in-Sput.ensures.value) }
 
 pub returns-in-InvokeVirtual : goal.returns-in-InvokeVirtual
-returns-in-InvokeVirtual c = record { value = rw (c.in-InvokeVirtual.is, c.both-in-InvokeVirtual.ensures.value, c.arguments_fit.ensures.value) }
+returns-in-InvokeVirtual c = record {
+  value = rw (
+    c.in-InvokeVirtual.is,
+    c.both-in-InvokeVirtual.ensures.value,
+    c.arguments_fit.ensures.value,
+  );
+}
 
 pub returns-in-InvokeStatic : goal.returns-in-InvokeStatic
-returns-in-InvokeStatic c = record { value = rw (c.in-InvokeStatic.is, c.both-in-InvokeStatic.ensures.value, c.arguments_fit-in-InvokeStatic.ensures.value) }
+returns-in-InvokeStatic c = record {
+  value = rw (
+    c.in-InvokeStatic.is,
+    c.both-in-InvokeStatic.ensures.value,
+    c.arguments_fit-in-InvokeStatic.ensures.value,
+  );
+}
 
 pub returns-in-MoveResult : goal.returns-in-MoveResult
 returns-in-MoveResult c = record { value = rw c.in-MoveResult.is }

@@ -13,29 +13,18 @@ take-answer-requires c = sym empty_tables
 pub returns-then-number_of-eq0 : goal.returns-then-number_of-eq0
 returns-then-number_of-eq0 c =
     let text = c.args.text.now in
+    let told = c.take-answer.ensures in
     record {
-      answer = (let told = c.take-answer.ensures in (
-        told.0,
-        tables_read (read_program text) (numbered text) _ (replicate 768 0) told.1
-            (sym told.0.0 ∙ sym c.number_of.ensures.value ∙ c.if-number_of-eq0.true),
-      )).0;
-      memory = (let told = c.take-answer.ensures in (
-        told.0,
-        tables_read (read_program text) (numbered text) _ (replicate 768 0) told.1
-            (sym told.0.0 ∙ sym c.number_of.ensures.value ∙ c.if-number_of-eq0.true),
-      )).1;
+      answer = told.answer;
+      memory = tables_read (read_program text) (numbered text) _ (replicate 768 0) told.tables
+          (sym told.answer.0 ∙ sym c.number_of.ensures.value ∙ c.if-number_of-eq0.true);
     }
 
 pub returns : goal.returns
-returns c = record {
-  answer = (let told = c.take-answer.ensures in (
-    told.0,
-    tables_refused (read_program c.args.text.now) (replicate 768 0)
-        (λ z. c.if-number_of-eq0.false (c.number_of.ensures.value ∙ told.0.0 ∙ z)),
-  )).0;
-  memory = (let told = c.take-answer.ensures in (
-    told.0,
-    tables_refused (read_program c.args.text.now) (replicate 768 0)
-        (λ z. c.if-number_of-eq0.false (c.number_of.ensures.value ∙ told.0.0 ∙ z)),
-  )).1;
-}
+returns c =
+    let told = c.take-answer.ensures in
+    record {
+      answer = told.answer;
+      memory = tables_refused (read_program c.args.text.now) (replicate 768 0)
+          (λ z. c.if-number_of-eq0.false (c.number_of.ensures.value ∙ told.answer.0 ∙ z));
+    }

@@ -12,31 +12,19 @@ take-answer-requires c = sym empty_tables
 pub returns-then-number_of-ne0 : goal.returns-then-number_of-ne0
 returns-then-number_of-ne0 c =
     let a = c.args in
+    let told = c.take-answer.ensures in
     record {
-      answer = (let told = c.take-answer.ensures in (
-        told.0,
-        tables_refused (read_program a.text.now) a.t.now
-            (λ z. c.if-number_of-ne0.true (c.number_of.ensures.value ∙ told.0.0 ∙ z)),
-      )).0;
-      memory = (let told = c.take-answer.ensures in (
-        told.0,
-        tables_refused (read_program a.text.now) a.t.now
-            (λ z. c.if-number_of-ne0.true (c.number_of.ensures.value ∙ told.0.0 ∙ z)),
-      )).1;
+      answer = told.answer;
+      memory = tables_refused (read_program a.text.now) a.t.now
+          (λ z. c.if-number_of-ne0.true (c.number_of.ensures.value ∙ told.answer.0 ∙ z));
     }
 
 pub returns : goal.returns
 returns c =
     let a = c.args in
+    let told = c.take-answer.ensures in
     record {
-      answer = (let told = c.take-answer.ensures in (
-        told.0,
-        tables_read (read_program a.text.now) (numbered a.text.now) _ a.t.now told.1
-            (sym told.0.0 ∙ sym c.number_of.ensures.value ∙ c.if-number_of-ne0.false),
-      )).0;
-      memory = (let told = c.take-answer.ensures in (
-        told.0,
-        tables_read (read_program a.text.now) (numbered a.text.now) _ a.t.now told.1
-            (sym told.0.0 ∙ sym c.number_of.ensures.value ∙ c.if-number_of-ne0.false),
-      )).1;
+      answer = told.answer;
+      memory = tables_read (read_program a.text.now) (numbered a.text.now) _ a.t.now told.tables
+          (sym told.answer.0 ∙ sym c.number_of.ensures.value ∙ c.if-number_of-ne0.false);
     }

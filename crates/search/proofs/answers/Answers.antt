@@ -9,7 +9,11 @@ use Rattle.search.proofs.answers.Goals as goal
 pub returns-then-method_class-c : goal.returns-then-method_class-c
 returns-then-method_class-c c =
     let a = c.args in
-    record { value = sym (other_class (program_in a.t.now) a.c a.name a.count a.m (λ e. c.if-method_class-c.true (c.method_class.ensures.value ∙ e))) }
+    record {
+      value = sym
+          (other_class (program_in a.t.now) a.c a.name a.count a.m
+          (λ e. c.if-method_class-c.true (c.method_class.ensures.value ∙ e)));
+    }
 
 pub returns-then-method_name-name : goal.returns-then-method_name-name
 returns-then-method_name-name c =

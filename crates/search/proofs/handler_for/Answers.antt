@@ -26,7 +26,9 @@ loop-left-preserved c =
     let highest : c.if-catches.found ≡ handling_of (last (suc h) (catches p a.m a.pc a.c)) =
     elim c.if-catches.branch [
       | then-catches w ↦ w.found-is ∙ sym (handler_fits p a.m a.pc a.c h (rw c.catches.ensures.value at w.if-catches.true))
-      | else-catches w ↦ w.found-is ∙ c.loop-left.invariant.1 ∙ sym (ap handling_of (handler_passed p a.m a.pc a.c h (rw c.catches.ensures.value at w.if-catches.false)))
+      | else-catches w ↦
+          w.found-is ∙ c.loop-left.invariant.1
+          ∙ sym (ap handling_of (handler_passed p a.m a.pc a.c h (rw c.catches.ensures.value at w.if-catches.false)))
     ] in
     let more : suc h ≡ n - (c.loop-left.left - 1) = omega arith in
     (omega arith, rw (← more) highest)

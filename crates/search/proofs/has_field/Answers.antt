@@ -13,7 +13,11 @@ returns-then-f-field_count c =
     let a = c.args in
     let p = program_in a.t.now in
     let l : a.f < field_count p = omega arith in
-    record { value = c.below.ensures.value ∙ ap (λ (top : ℕ). below p a.c top) c.field_class.ensures.value ∙ sym (has_field_in p a.c a.f l) }
+    record {
+      value = c.below.ensures.value
+          ∙ ap (λ (top : ℕ). below p a.c top) c.field_class.ensures.value
+          ∙ sym (has_field_in p a.c a.f l);
+    }
 
 pub returns-else-f-field_count : goal.returns-else-f-field_count
 returns-else-f-field_count c =

@@ -8,9 +8,13 @@ use Rattle.search.proofs.virtual_callee.Goals as goal
 pub returns-then-found-eq0 : goal.returns-then-found-eq0
 returns-then-found-eq0 c =
     let a = c.args in
-    record { value = sym (number_missing (virtual_callee (program_in a.t.now) a.c a.name a.count) c.seek-found.result c.seek-found.ensures.value c.if-found-eq0.true) }
+    let s = c.seek-found in
+    let callee = virtual_callee (program_in a.t.now) a.c a.name a.count in
+    record { value = sym (number_missing callee s.result s.ensures.value c.if-found-eq0.true) }
 
 pub returns : goal.returns
 returns c =
     let a = c.args in
-    record { value = sym (number_found (virtual_callee (program_in a.t.now) a.c a.name a.count) c.seek-found.result c.seek-found.ensures.value c.if-found-eq0.false) }
+    let s = c.seek-found in
+    let callee = virtual_callee (program_in a.t.now) a.c a.name a.count in
+    record { value = sym (number_found callee s.result s.ensures.value c.if-found-eq0.false) }

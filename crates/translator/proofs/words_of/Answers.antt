@@ -1,16 +1,15 @@
 -- `translator::words_of` meets its contract: the walk goes from start to start, and what is translated so far stands in the words.
 -- Assumes nothing.
-use mathlib.Core.Path.{◌≡◌, refl, sym, ap, ◌∙◌}
-use Prim.Native.Nat.{◌-◌, ◌<◌}
+use mathlib.Core.Path.{refl, sym, ap, ◌∙◌}
+use Prim.Native.Nat.{◌<◌}
 use native.Mathlib.Omega.{arith}
 use lib.ListN.{length, length-set}
 use Rattle.units.specs.Units.{units_of}
 use Rattle.units.specs.Formats.{opcode_of}
 use Rattle.units.proofs.Texts.{unit_count}
-use Rattle.translator.specs.Inside.{Stands, Known}
-use Rattle.translator.proofs.Walking.{start, begins, still_stands}
+use Rattle.translator.proofs.Walking.{begins, still_stands}
 use Rattle.translator.proofs.KnownStarts.{none_known, known_goes}
-use Rattle.translator.proofs.Progress.{Progress, begun, all_done, was_cut, was_unknown, was_broken, in_room, moves, inside, goes}
+use Rattle.translator.proofs.Progress.{begun, all_done, was_cut, was_unknown, was_broken, in_room, moves, inside, goes}
 use Rattle.translator.proofs.words_of.Goals as goal
 
 pub loop-at-init : goal.loop-at-init

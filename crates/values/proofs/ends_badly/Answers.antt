@@ -8,7 +8,14 @@ use Rattle.program.specs.Tables.{program_in}
 use Rattle.values.proofs.ends_badly.Goals as goal
 
 pub returns-then-pc-n : goal.returns-then-pc-n
-returns-then-pc-n c = record { value = rw (c.both.ensures.value, c.falls_through.ensures.value, c.instruction_at.ensures.value, c.code_length-n.ensures.value) }
+returns-then-pc-n c = record {
+  value = rw (
+    c.both.ensures.value,
+    c.falls_through.ensures.value,
+    c.instruction_at.ensures.value,
+    c.code_length-n.ensures.value,
+  );
+}
 
 pub returns-else-pc-n : goal.returns-else-pc-n
 returns-else-pc-n c =

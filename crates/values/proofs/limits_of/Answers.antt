@@ -2,4 +2,13 @@
 use Rattle.values.proofs.limits_of.Goals as goal
 
 pub returns : goal.returns
-returns c = record { value = rw (c.method_count.ensures.value, c.static_count.ensures.value, c.field_count.ensures.value, c.class_count.ensures.value, c.code_length.ensures.value, c.registers.ensures.value) }
+returns c = record {
+  value = rw (
+    c.method_count.ensures.value,
+    c.static_count.ensures.value,
+    c.field_count.ensures.value,
+    c.class_count.ensures.value,
+    c.code_length.ensures.value,
+    c.registers.ensures.value,
+  );
+}

@@ -17,7 +17,9 @@ unfolding repeated
 returns-then-alike c =
     let a = c.args in
     let l : c.loop-k.k < a.m = omega arith in
-    record { value = sym (ap some? (first_stop a.m (alike (program_in a.t.now) a.m) c.loop-k.k l c.loop-k.invariant (rw c.alike.ensures.value at c.if-alike.true))) }
+    let e = first_stop a.m (alike (program_in a.t.now) a.m) c.loop-k.k l c.loop-k.invariant
+    (rw c.alike.ensures.value at c.if-alike.true) in
+    record { value = sym (ap some? e) }
 
 pub loop-k-preserved : goal.loop-k-preserved
 loop-k-preserved c = below_more _ _ c.loop-k.invariant (rw c.alike.ensures.value at c.if-alike.false)

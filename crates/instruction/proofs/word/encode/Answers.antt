@@ -34,7 +34,8 @@ returns-in-Const c =
         c.in-Const.is,
         c.pack-in-Const.ensures.value,
         c.bits.ensures.value,
-        to_z-of_z w32 c.in-Const.value (record { sfits = c.in-Const.known_told-in-Const-1-own.given.1.0.1 }))
+        to_z-of_z w32 c.in-Const.value (record { sfits = c.in-Const.known_told-in-Const-1-own.given.1.0.1 }),
+      );
     }
 
 pub returns-in-Goto : goal.returns-in-Goto

@@ -1,5 +1,4 @@
 -- `translator::branches::branch_frame` meets its contract. Assumes nothing.
-use borrow.Author.Rules.{rules}
 use Rattle.translator.proofs.branches.branch_frame.Goals as goal
 
 pub returns-in-Goto : goal.returns-in-Goto

@@ -1,5 +1,4 @@
 -- `translator::branches::is_branch_fine` meets its contract. Assumes nothing.
-use borrow.Author.Rules.{rules}
 use Rattle.translator.proofs.branches.is_branch_fine.Goals as goal
 
 pub returns-in-Goto : goal.returns-in-Goto

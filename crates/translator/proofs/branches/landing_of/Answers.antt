@@ -1,7 +1,6 @@
 -- `translator::branches::landing_of` meets its contract. Assumes nothing.
 use borrow.Author.Tests.{lt-ltb, le-ltb}
 use Rattle.units.specs.Formats.{landing}
-use borrow.Author.Rules.{rules}
 use Rattle.translator.proofs.branches.landing_of.Goals as goal
 
 pub returns-then-offset-half : goal.returns-then-offset-half

@@ -1,8 +1,6 @@
 -- `translator::check::branch_at` meets its contract. Assumes nothing.
 use mathlib.Core.Path.{◌≡◌, sym, ap, ◌∙◌}
 use native.Mathlib.Omega.{arith}
-use borrow.Author.Rules.{rules}
-use borrow.Author.Tests.{not-true, not-false}
 use Rattle.instruction.specs.Word.{word_of}
 use Rattle.units.specs.Units.{units_of}
 use Rattle.units.specs.Frames.{reached}
@@ -26,7 +24,7 @@ returns-then-not-is_branch_fine c =
     let fine = c.is_branch_fine.ensures.value (reached us to) there in
     record {
       value = branch_refused us a.at a.b u v c.unit-u.ensures.value c.unit-v.ensures.value
-          (sym fine ∙ not-true _ c.if-not-is_branch_fine.true);
+          (sym fine ∙ c.if-not-is_branch_fine.true);
     }
 
 pub returns : goal.returns
@@ -43,7 +41,7 @@ returns c =
     c.unit-w.ensures.value in
     let there = branch_there a.text.now a.at a.b a.start place e c.requires.2 in
     let fine = c.is_branch_fine.ensures.value (reached us to) there in
-    let well = sym fine ∙ not-false _ c.if-not-is_branch_fine.false in
+    let well = sym fine ∙ c.if-not-is_branch_fine.false in
     let address = there_address us to a.start c.requires.2 a.b u v well in
     record {
       value = branch_word us a.at a.b u v c.unit-u.ensures.value c.unit-v.ensures.value well _ address

@@ -1,7 +1,5 @@
 -- `translator::check::plain_at` meets its contract. Assumes nothing.
 use mathlib.Core.Path.{sym, ◌∙◌}
-use borrow.Author.Rules.{rules}
-use borrow.Author.Tests.{not-true, not-false}
 use Rattle.instruction.proofs.Laws.{holds}
 use Rattle.units.specs.Frames.{plain_fine, plain_frame}
 use Rattle.translator.proofs.Checking.{by_false, by_true}
@@ -15,7 +13,7 @@ returns-then-not-is_plain_fine c =
     let w = c.unit-w.result in
     record {
       value = rw (sym c.unit-u.ensures.value, sym c.unit-v.ensures.value, sym c.unit-w.ensures.value)
-          (by_false (plain_fine a.o u v w) (plain_frame a.o u v w) (sym c.is_plain_fine.ensures.value ∙ not-true _ c.if-not-is_plain_fine.true));
+          (by_false (plain_fine a.o u v w) (plain_frame a.o u v w) (sym c.is_plain_fine.ensures.value ∙ c.if-not-is_plain_fine.true));
     }
 
 pub returns : goal.returns
@@ -24,7 +22,7 @@ returns c =
     let u = c.unit-u.result in
     let v = c.unit-v.result in
     let w = c.unit-w.result in
-    let fine = sym c.is_plain_fine.ensures.value ∙ not-false _ c.if-not-is_plain_fine.false in
+    let fine = sym c.is_plain_fine.ensures.value ∙ c.if-not-is_plain_fine.false in
     let frame = c.plain_frame.ensures.value (holds (plain_fine a.o u v w) fine) in
     record {
       value = rw (sym c.unit-u.ensures.value, sym c.unit-v.ensures.value, sym c.unit-w.ensures.value, c.encode.ensures.value, frame)

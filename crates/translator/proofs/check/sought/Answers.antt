@@ -1,7 +1,6 @@
 -- `translator::check::sought` meets its contract. Assumes nothing.
 use mathlib.Core.Path.{◌≡◌}
 use native.Mathlib.Omega.{arith}
-use borrow.Author.Rules.{rules}
 use Rattle.units.specs.Units.{units_of}
 use Rattle.translator.specs.Inside.{branch_target}
 use Rattle.translator.proofs.KnownStarts.{known_sought}

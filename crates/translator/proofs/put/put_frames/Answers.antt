@@ -1,7 +1,6 @@
 -- `translator::put::put_frames` meets its contract. Assumes nothing.
-use mathlib.Core.Path.{refl, sym, ap}
+use mathlib.Core.Path.{sym, ap}
 use native.Mathlib.Omega.{arith}
-use borrow.Author.Rules.{rules}
 use borrow.Author.Tests.{lt-ltb, le-ltb}
 use Rattle.output.specs.declared.Output.TheVariants.{Written}
 use Rattle.page.proofs.Puts.{whole, put_length}
@@ -14,7 +13,7 @@ returns-then-memory-count c =
     let size = first_length a.words.now a.count
     (omega (arith, c.requires.0, c.requires.1)) in
     let short = lt-ltb _ _ (rw (← size) at c.if-memory-count.true) in
-    record { answer = (rw short (refl, refl)).0; memory = (rw short (refl, refl)).1 }
+    record { answer = rw short; memory = rw short }
 
 pub shape_of-memory : goal.shape_of-memory
 shape_of-memory c = put_length c.put_lines.ensures.put
@@ -25,4 +24,5 @@ returns c =
     let size = first_length a.words.now a.count
     (omega (arith, c.requires.0, c.requires.1)) in
     let room = rw (← size) at c.if-memory-count.false in
-    record { answer = (rw (le-ltb _ _ room) (ap Written (sym size), (whole c.put_lines.ensures.put room).1)).0; memory = (rw (le-ltb _ _ room) (ap Written (sym size), (whole c.put_lines.ensures.put room).1)).1 }
+    let fits = le-ltb _ _ room in
+    record { answer = rw fits (ap Written (sym size)); memory = rw fits (whole c.put_lines.ensures.put room).1 }

@@ -1,5 +1,4 @@
 -- `translator::put::put_line` meets its contract. Assumes nothing.
-use borrow.Author.Rules.{rules}
 use Rattle.page.proofs.Puts.{put_then, put_as}
 use Rattle.translator.proofs.put.put_line.Goals as goal
 

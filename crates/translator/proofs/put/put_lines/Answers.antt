@@ -1,11 +1,9 @@
 -- `translator::put::put_lines` meets its contract. Assumes nothing.
-use Prim.Native.Nat.{ℕ, ◌-◌, ◌≤◌}
+use Prim.Native.Nat.{ℕ}
 use native.Mathlib.Omega.{arith}
 use mathlib.Core.Path.{ap}
 use native.Mathlib.Nat.{le_antisymm}
-use borrow.Author.Rules.{rules}
 use lib.ListN.{take}
-use Rattle.page.specs.Page.{Put}
 use Rattle.page.proofs.Puts.{put_none, put_length, put_as}
 use Rattle.units.specs.Translate.{frame_lines}
 use Rattle.translator.proofs.FrameText.{put_next_line}

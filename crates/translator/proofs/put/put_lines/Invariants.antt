@@ -1,14 +1,8 @@
 -- `translator::put::put_lines`: what its loops keep, and what falls.
-use Prim.Native.Nat.{ℕ, ◌-◌, ◌≤◌}
-use native.Mathlib.Omega.{arith}
-use mathlib.Core.Path.{ap}
-use native.Mathlib.Nat.{le_antisymm}
-use borrow.Author.Rules.{rules}
+use Prim.Native.Nat.{◌-◌, ◌≤◌}
 use lib.ListN.{take}
 use Rattle.page.specs.Page.{Put}
-use Rattle.page.proofs.Puts.{put_none, put_length, put_as}
 use Rattle.units.specs.Translate.{frame_lines}
-use Rattle.translator.proofs.FrameText.{put_next_line}
 use Rattle.translator.proofs.put.put_lines.Given as goal
 
 abbrev pub invariant-loop-i : goal.invariant-loop-i

@@ -1,6 +1,5 @@
 -- `translator::straight::first_listed` meets its contract. Assumes nothing.
 use Rattle.translator.proofs.Firsts.{listed_none, listed_some}
-use borrow.Author.Rules.{rules}
 use Rattle.translator.proofs.straight.first_listed.Goals as goal
 
 pub returns-then-u-eq0 : goal.returns-then-u-eq0

@@ -1,6 +1,5 @@
 -- `translator::straight::first_ranged` meets its contract. Assumes nothing.
 use Rattle.translator.proofs.Firsts.{ranged_none, ranged_some}
-use borrow.Author.Rules.{rules}
 use Rattle.translator.proofs.straight.first_ranged.Goals as goal
 
 pub returns-then-u-eq0 : goal.returns-then-u-eq0

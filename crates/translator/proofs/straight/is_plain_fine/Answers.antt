@@ -1,5 +1,4 @@
 -- `translator::straight::is_plain_fine` meets its contract. Assumes nothing.
-use borrow.Author.Rules.{rules}
 use Rattle.translator.proofs.straight.is_plain_fine.Goals as goal
 
 pub returns-in-Nop : goal.returns-in-Nop

@@ -3,7 +3,6 @@ use mir.Syntax.{w32}
 use mir.ValLaws.{to_z-of_z}
 use borrow.Author.Tests.{lt-ltb, le-ltb}
 use Rattle.units.specs.Formats.{signed_by}
-use borrow.Author.Rules.{rules}
 use Rattle.translator.proofs.straight.signed_by.Goals as goal
 
 pub returns-then-x-half : goal.returns-then-x-half

@@ -3,7 +3,6 @@ use mathlib.Core.Path.{sym, ◌∙◌}
 use native.Mathlib.Omega.{arith}
 use borrow.Author.Tests.{eq-eqb, ne_eqb}
 use Rattle.translator.proofs.OneLine.{not_whole, not_any, some_bytes, one_line_lem}
-use borrow.Author.Rules.{rules}
 use Rattle.translator.proofs.walk.is_one_line.Goals as goal
 
 pub returns-then-n-ne0 : goal.returns-then-n-ne0

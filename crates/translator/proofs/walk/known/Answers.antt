@@ -1,12 +1,8 @@
 -- `translator::walk::known` meets its contract. Assumes nothing.
-use mathlib.Core.Path.{◌≡◌, refl, sym, ◌∙◌}
-use Prim.Native.Nat.{◌-◌, ◌≤◌}
+use mathlib.Core.Path.{refl, sym, ◌∙◌}
 use native.Mathlib.Numerals.{add-one}
 use native.Mathlib.Omega.{arith}
-use borrow.Author.Rules.{rules}
 use borrow.Author.Tests.{eq-eqb, ne_eqb}
-use lib.ListN.{take, drop}
-use Rattle.translator.specs.Inside.{start_from, known_start}
 use Rattle.translator.proofs.KnownStarts.{next_known, all_known}
 use Rattle.translator.proofs.walk.known.Goals as goal
 

@@ -1,19 +1,10 @@
 -- `translator::walk::length_at` meets its contract. Assumes nothing.
 use mathlib.Core.Path.{ap, ◌∙◌}
-use borrow.Author.Rules.{rules}
 use Rattle.opcodes.specs.Opcodes.{length_of}
 use Rattle.translator.proofs.walk.length_at.Goals as goal
 
 pub returns : goal.returns
 returns c = record {
-  value = ((
-    c.length_in.ensures.value c.requires.0 ∙ ap length_of
-        c.opcode.ensures.value,
-    c.length_in.ensures.most,
-  )).0;
-  most = ((
-    c.length_in.ensures.value c.requires.0 ∙ ap length_of
-        c.opcode.ensures.value,
-    c.length_in.ensures.most,
-  )).1;
+  value = c.length_in.ensures.value c.requires.0 ∙ ap length_of c.opcode.ensures.value;
+  most = c.length_in.ensures.most;
 }

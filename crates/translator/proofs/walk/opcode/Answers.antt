@@ -2,7 +2,6 @@
 use mathlib.Core.Path.{sym, ap, ◌∙◌}
 use Prim.Native.Nat.{ℕ, ◌%◌}
 use native.Mathlib.Omega.{arith}
-use borrow.Author.Rules.{rules}
 use Rattle.units.proofs.Texts.{unit_past}
 use Rattle.translator.proofs.UnitDigits.{unit_low, low_below}
 use Rattle.translator.proofs.walk.opcode.Goals as goal

@@ -1,11 +1,9 @@
 -- `translator::walk::seek` meets its contract: the walk goes from start to start. Assumes nothing.
 use mathlib.Core.Path.{sym, ◌∙◌}
-use Prim.Native.Nat.{◌-◌}
 use native.Mathlib.Omega.{arith}
 use Rattle.units.specs.Units.{units_of}
 use Rattle.units.proofs.Texts.{unit_count}
-use Rattle.translator.specs.Inside.{Follows, Stands}
-use Rattle.translator.proofs.Walking.{start, nearest, arrived, unused, cut, goes, follows_on}
+use Rattle.translator.proofs.Walking.{nearest, arrived, unused, cut, goes, follows_on}
 use Rattle.translator.proofs.walk.seek.Goals as goal
 
 pub loop-at-init : goal.loop-at-init

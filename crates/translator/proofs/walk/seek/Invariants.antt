@@ -1,11 +1,8 @@
 -- `translator::walk::seek`: what its loops keep, and what falls.
-use mathlib.Core.Path.{sym, ◌∙◌}
 use Prim.Native.Nat.{◌-◌}
-use native.Mathlib.Omega.{arith}
 use Rattle.units.specs.Units.{units_of}
-use Rattle.units.proofs.Texts.{unit_count}
 use Rattle.translator.specs.Inside.{Follows, Stands}
-use Rattle.translator.proofs.Walking.{start, nearest, arrived, unused, cut, goes, follows_on}
+use Rattle.translator.proofs.Walking.{start}
 use Rattle.translator.proofs.walk.seek.Given as goal
 
 abbrev pub invariant-loop-at : goal.invariant-loop-at

@@ -1,7 +1,6 @@
 -- `translator::walk::unit` meets its contract. Assumes nothing.
 use mathlib.Core.Path.{sym, ◌∙◌}
 use native.Mathlib.Omega.{arith}
-use borrow.Author.Rules.{rules}
 use Rattle.units.proofs.Texts.{unit_past, unit_below}
 use Rattle.translator.proofs.UnitDigits.{unit_four}
 use Rattle.translator.proofs.walk.unit.Goals as goal
