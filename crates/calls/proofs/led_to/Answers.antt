@@ -38,14 +38,12 @@ loop-q-preserved c =
     )
 
 pub returns : goal.returns
-returns c q =
+returns c = record { callees = λ q.
     let a = c.args in
     let p = program_in a.t.now in
-    record {
-      callees = c.loop-q.invariant.1 q
+    c.loop-q.invariant.1 q
           ∙ by_test (leads_to p a.mask a.name a.count q)
           (λ t.
           let l : q < method_count p = leads_few p a.mask a.name a.count q t in
           rw (t, lt-ltb q c.loop-q.q (omega (arith, c.method_count-n.ensures.value))))
-          (λ t. rw t (and_false (ltb q c.loop-q.q)));
-    }
+          (λ t. rw t (and_false (ltb q c.loop-q.q))) }

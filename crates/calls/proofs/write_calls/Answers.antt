@@ -5,5 +5,3 @@ use Rattle.calls.proofs.write_calls.Goals as goal
 pub write_by-requires : goal.write_by-requires
 write_by-requires c = c.fill.ensures.memory
 
-pub returns : goal.returns
-returns c = record { count = (c.write_by.ensures).0; memory = (c.write_by.ensures).1 }

@@ -32,13 +32,13 @@ returns-then-not-goes_of c =
     record {
       value = sym
           (each_not a.set (λ k. flows a.read a.other (claim_in a.w.now (field_of k a.x))) c.loop-k.k (omega arith)
-          (sym c.goes_of.ensures.value ∙ not-true _ c.if-not-goes_of.true));
+          (sym c.goes_of.ensures.value ∙ c.if-not-goes_of.true));
     }
 
 pub loop-k-preserved : goal.loop-k-preserved
 loop-k-preserved c = (
   omega arith,
-  λ j l. below_more _ _ c.loop-k.invariant.1 (sym c.goes_of.ensures.value ∙ not-false _ c.if-not-goes_of.false) j (omega arith),
+  λ j l. below_more _ _ c.loop-k.invariant.1 (sym c.goes_of.ensures.value ∙ c.if-not-goes_of.false) j (omega arith),
 )
 
 pub returns : goal.returns
