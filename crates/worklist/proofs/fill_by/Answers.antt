@@ -50,7 +50,7 @@ loop-left-preserved c =
       λ formed none.
           let (under, few) = c.loop-left.invariant.1 formed none in
           let risen = c.go_on.ensures.risen formed first.method first.address in
-          let size = c.sized-arg-in-loop-left-1.given.0 in
+          let size = c.go_on.array_long in
           let less = risen_less p b.rule b.method b.address c.loop-left.w _ size bad risen in
           (λ e a. risen.under e a (under e a), omega (arith, less, few)),
     )

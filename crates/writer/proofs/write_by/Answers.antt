@@ -9,9 +9,8 @@ returns-then-number-ne0 c =
     let a = c.args in
     let number = c.number_of-number.ensures.value in
     let answer = c.fill-read.ensures.answer in
-    let done = rw (number, c.line_of.ensures.value)
-        (refused_answered a.program.now a.memory.now c.fill-read.result answer.0 answer.1 (λ z. omega (arith, number))) in
-    record { answer = done.0; memory = done.1 }
+    let done = refused_answered a.program.now a.memory.now c.fill-read.result answer.0 answer.1 (λ z. omega (arith, number)) in
+    record { answer = rw (number, c.line_of.ensures.value) done.0; memory = done.1 }
 
 pub write_tables-requires : goal.write_tables-requires
 write_tables-requires c =
