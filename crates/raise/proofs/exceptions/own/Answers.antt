@@ -10,10 +10,10 @@ returns-then-may c =
       raised = λ made few formed lm.
           let a = c.args in
           own_raised (program_in a.t.now) a.m a.pc a.class a.may c.one.result (c.one.ensures.bits few)
-              c.if-may.true
-              _
-              _
-              (c.raised.ensures.raised made formed lm);
+          c.if-may.true
+          _
+          _
+          (c.raised.ensures.raised made formed lm);
     }
 
 pub returns : goal.returns

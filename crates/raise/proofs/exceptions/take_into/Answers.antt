@@ -13,7 +13,7 @@ returns-then-subset c =
       raised = λ formed lm lp.
           let a = c.args in
           taken_none (program_in a.t.now) a.m a.pc a.to a.mask (claim_in a.w.now)
-              (sym c.subset.ensures.value ∙ c.if-subset.true);
+          (sym c.subset.ensures.value ∙ c.if-subset.true);
     }
 
 pub returns : goal.returns
@@ -23,5 +23,5 @@ returns c =
           let a = c.args in
           let p = program_in a.t.now in
           taken_some p a.m a.pc a.to a.mask _ _ _ (sym c.subset.ensures.value ∙ c.if-subset.false) (c.carry-new.ensures.raised formed lm lp)
-              (c.join_result.ensures.joined (own_inside p formed (result_at a.m a.to) (lm, lp)));
+          (c.join_result.ensures.joined (own_inside p formed (result_at a.m a.to) (lm, lp)));
     }

@@ -25,5 +25,5 @@ returns c =
           let zero : has c.common.result k ≡ has a.mask k && eqb k zero_bit =
           c.common.ensures.bits k ∙ ap (◌&&◌ (has a.mask k)) (c.one.ensures.bits (omega arith) k) in
           c.join.ensures.bits k
-              ∙ rw (classes, zero) (passing_bits (has a.mask k) (ltb k (class_count p) && below p k a.class) (eqb k zero_bit));
+          ∙ rw (classes, zero) (passing_bits (has a.mask k) (ltb k (class_count p) && below p k a.class) (eqb k zero_bit));
     }

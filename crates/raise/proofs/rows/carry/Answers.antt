@@ -48,5 +48,5 @@ returns c =
           let here = registers_from_lem m a.pc n _ c.row-from.ensures.value few in
           let there = registers_from_lem m a.to n _ c.row-into.ensures.value few in
           row_carried p formed m a.pc a.to a.w.now _ lm lp c.join_words-arg-1.given.0.1 n count
-              (c.join_words.ensures.raised (register_at m a.pc) (register_at m a.to) here there);
+          (c.join_words.ensures.raised (register_at m a.pc) (register_at m a.to) here there);
     }

@@ -1,17 +1,16 @@
 -- `raise::rows::pass_arguments` meets its contract. The loop's invariant: the arguments from the first asked to the one before the next
 -- are passed. Assumes nothing.
 use mathlib.Core.Path.{◌≡◌, ap}
-use Prim.Native.Nat.{ℕ, ◌+◌, ◌-◌, ◌≤◌, ◌<◌}
+use Prim.Native.Nat.{ℕ, ◌+◌, ◌-◌, ◌<◌}
 use native.Mathlib.Numerals.{add-one}
 use native.Mathlib.Omega.{arith}
 use Rattle.program.specs.Program.{registers}
 use Rattle.program.specs.Tables.{program_in}
 use Rattle.flow.specs.Claim.{register_at}
-use Rattle.flow.specs.Flows.{Flows, each}
+use Rattle.flow.specs.Flows.{Flows}
 use Rattle.flow.specs.Rules.{argument_into, parameter}
 use Rattle.slots.specs.Layout.{claim_in}
 use Rattle.order.proofs.Raising.{raised_none, raised_more, raised_into}
-use Rattle.raise.specs.Raises.{Calling}
 use Rattle.raise.proofs.Places.{own_inside}
 use Rattle.raise.proofs.rows.pass_arguments.Goals as goal
 

@@ -2,7 +2,6 @@
 use mathlib.Core.Path.{◌≡◌}
 use native.Mathlib.Omega.{arith}
 use lib.ListN.{length}
-use borrow.Author.Rules.{rules}
 use Rattle.raise.proofs.Places.{joined_at}
 use Rattle.raise.proofs.words.join.Goals as goal
 
@@ -13,7 +12,7 @@ returns-then-i-lt9712 c =
           let a = c.args in
           let size : length a.w.now ≡ 9712 = c.put-arg-1.given.0.1 in
           rw c.put.ensures.memory
-              (joined_at a.w.now a.i a.mask c.join-all.result size (omega arith) c.join-all.ensures.bits s e);
+          (joined_at a.w.now a.i a.mask c.join-all.result size (omega arith) c.join-all.ensures.bits s e);
     }
 
 pub returns : goal.returns
