@@ -12,7 +12,7 @@ returns-then-pc-eq0 c =
       raised = λ formed lm.
           let a = c.args in
           raised_when _ (entry (program_in a.t.now) a.m) _ _ (eq-eqb a.pc 0 c.if-pc-eq0.true)
-              (c.entry.ensures.raised formed lm);
+          (c.entry.ensures.raised formed lm);
     }
 
 pub returns-else-pc-eq0 : goal.returns-else-pc-eq0

@@ -14,8 +14,8 @@ returns-then-pc-eq0 c =
       raised = λ formed.
           let a = c.args in
           raised_when _ (initial_memory (program_in a.t.now)) _ _
-              (rw (eq-eqb a.m 0 c.if-m-eq0.true, eq-eqb a.pc 0 c.if-pc-eq0.true))
-              (c.initial_memory.ensures.raised formed);
+          (rw (eq-eqb a.m 0 c.if-m-eq0.true, eq-eqb a.pc 0 c.if-pc-eq0.true))
+          (c.initial_memory.ensures.raised formed);
     }
 
 pub returns-else-pc-eq0 : goal.returns-else-pc-eq0
@@ -24,7 +24,7 @@ returns-else-pc-eq0 c =
       raised = λ formed.
           let a = c.args in
           left_when _ (initial_memory (program_in a.t.now)) (claim_in a.w.now)
-              (rw (ne_eqb a.pc 0 c.if-pc-eq0.false) (and_false (eqb a.m 0)));
+          (rw (ne_eqb a.pc 0 c.if-pc-eq0.false) (and_false (eqb a.m 0)));
     }
 
 pub returns-else-m-eq0 : goal.returns-else-m-eq0

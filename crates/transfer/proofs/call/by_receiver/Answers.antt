@@ -1,7 +1,6 @@
 -- `transfer::call::by_receiver` meets its contract. Assumes nothing.
 use Prim.Native.Nat.{suc, ◌-◌}
 use native.Mathlib.Numerals.{add-one}
-use native.Mathlib.Omega.{arith}
 use Rattle.program.specs.Tables.{program_in}
 use Rattle.flow.specs.Flows.{◌&◌, each}
 use Rattle.flow.specs.Rules.{carried, receivers, receiver_into, argument_into, returned_into, leaving_classes, into_handler, into_leaving}
@@ -30,9 +29,9 @@ returns c =
           let nine = receivers p m pc n b r (λ k q. leaving_classes p m pc q (into_handler p m pc)) in
           let ten = receivers p m pc n b r (λ k q. leaving_classes p m pc q (into_leaving p m pc)) in
           raised_called nine ten _ _ _ _ _ on six seven
-              (raised_both on (six & seven & nine & ten) _ _ _
-              ((rw (add-one pc) at c.carry-new.ensures.raised) formed lm lp)
-              (virtual_raised p m pc n b r _ _
-              (rw c.register-mask.ensures.value at (c.take_callees-called.ensures.raised made some formed lm lp))))
-              (c.null_used.ensures.raised made formed lm);
+          (raised_both on (six & seven & nine & ten) _ _ _
+          ((rw (add-one pc) at c.carry-new.ensures.raised) formed lm lp)
+          (virtual_raised p m pc n b r _ _
+          (rw c.register-mask.ensures.value at (c.take_callees-called.ensures.raised made some formed lm lp))))
+          (c.null_used.ensures.raised made formed lm);
     }

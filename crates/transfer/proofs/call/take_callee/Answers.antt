@@ -19,7 +19,7 @@ returns-then-subset c =
       raised = λ made some callee formed lm lp.
           let a = c.args in
           called_none (program_in a.t.now) a.m a.pc a.count a.register a.q a.receivers (claim_in a.w.now)
-              (sym c.subset.ensures.value ∙ c.if-subset.true);
+          (sym c.subset.ensures.value ∙ c.if-subset.true);
     }
 
 pub come_back-back-requires : goal.come_back-back-requires
@@ -39,10 +39,10 @@ returns-then-q-lt16 c =
           let place : register_at q 0 c.locals-place.result ≡ there = ap (register_at q 0) (omega (arith, c.locals-place.ensures.value)) in
           let f = formed.methods q lq in
           called_some p a.m a.pc a.count a.register q a.receivers _ _ _ one
-              ((rw place at c.join_register-entered.ensures.joined)
-              (own_inside p formed there (lq, omega (arith, f.code_from), omega (arith, f.arguments_to, same))))
-              (raised_both (arguments_from p a.m a.pc q 1 a.count a.register) (from_callee p a.m a.pc q) _ _ _
-              (c.pass_arguments-given.ensures.raised formed lq same) (c.come_back-back.ensures.raised made formed lm lp));
+          ((rw place at c.join_register-entered.ensures.joined)
+          (own_inside p formed there (lq, omega (arith, f.code_from), omega (arith, f.arguments_to, same))))
+          (raised_both (arguments_from p a.m a.pc q 1 a.count a.register) (from_callee p a.m a.pc q) _ _ _
+          (c.pass_arguments-given.ensures.raised formed lq same) (c.come_back-back.ensures.raised made formed lm lp));
     }
 
 pub returns : goal.returns

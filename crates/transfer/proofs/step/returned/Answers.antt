@@ -16,6 +16,6 @@ returns c =
           let here = register_at a.m a.pc a.from in
           let into = returned_by a.m in
           raised_last (here ⊆ into) _ _
-              (raised_into here into (claim_in a.w.now) _
-              (rw c.register-value.ensures.value at (c.join_returned.ensures.joined (own_inside (program_in a.t.now) formed into lm))));
+          (raised_into here into (claim_in a.w.now) _
+          (rw c.register-value.ensures.value at (c.join_returned.ensures.joined (own_inside (program_in a.t.now) formed into lm))));
     }

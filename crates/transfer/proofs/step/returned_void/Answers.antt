@@ -16,6 +16,6 @@ returns c =
           let a = c.args in
           let into = returned_by a.m in
           raised_last (zero_bit ∈ into) _ _
-              (raised_one zero_bit c.one.result into _ _ (c.one.ensures.bits (omega arith))
-              (c.join_returned.ensures.joined (own_inside (program_in a.t.now) formed into lm)));
+          (raised_one zero_bit c.one.result into _ _ (c.one.ensures.bits (omega arith))
+          (c.join_returned.ensures.joined (own_inside (program_in a.t.now) formed into lm)));
     }

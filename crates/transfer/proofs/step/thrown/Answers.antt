@@ -29,6 +29,6 @@ returns c =
           k
           ∙ ap (λ (x : Mask). has x k && (ltb k (class_count p) && below p k 1)) c.register-mask.ensures.value in
           raised_beside _ _ _ _ _ _ _
-              (thrown_raised p a.m a.pc a.from c.common-throwable.result cl _ bits (c.raised-new.ensures.raised made formed lm))
-              (c.null_used.ensures.raised made formed lm);
+          (thrown_raised p a.m a.pc a.from c.common-throwable.result cl _ bits (c.raised-new.ensures.raised made formed lm))
+          (c.null_used.ensures.raised made formed lm);
     }

@@ -1,7 +1,6 @@
 -- `transfer::step::to_next` meets its contract. Assumes nothing.
 use Prim.Native.Nat.{suc}
 use native.Mathlib.Numerals.{add-one}
-use native.Mathlib.Omega.{arith}
 use Rattle.program.specs.Tables.{program_in}
 use Rattle.flow.specs.Rules.{onward}
 use Rattle.transfer.proofs.Stored.{raised_last}
@@ -13,5 +12,5 @@ returns c =
       raised = λ formed lm lp.
           let a = c.args in
           raised_last (onward (program_in a.t.now) a.m a.pc (suc a.pc)) _ _
-              ((rw (add-one a.pc) at c.onward.ensures.raised) formed lm lp);
+          ((rw (add-one a.pc) at c.onward.ensures.raised) formed lm lp);
     }

@@ -25,11 +25,11 @@ returns c =
           let bits : (k : ℕ) → has c.passing-value.result k ≡ has (cl (register_at a.m a.pc a.register)) k && passes_cast p a.class k =
           rw c.register-mask.ensures.value at (c.passing-value.ensures.bits made) in
           raised_after _ _ _ _ _ _ _
-              (c.written-new.ensures.raised (cast_into p a.m a.pc a.register a.class)
-              (gives_cast p a.m a.pc a.register a.class c.passing-value.result cl bits)
-              formed
-              lm
-              lp
-              la)
-              (c.cast_failed.ensures.raised made formed lm);
+          (c.written-new.ensures.raised (cast_into p a.m a.pc a.register a.class)
+          (gives_cast p a.m a.pc a.register a.class c.passing-value.result cl bits)
+          formed
+          lm
+          lp
+          la)
+          (c.cast_failed.ensures.raised made formed lm);
     }

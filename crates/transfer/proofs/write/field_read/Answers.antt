@@ -31,13 +31,13 @@ returns c =
           let bits : (k : ℕ) → has c.with_field-having.result k ≡ has object k && (ltb k (class_count p) && has_field p k a.field) =
           rw c.register-mask.ensures.value at (c.with_field-having.ensures.bits made) in
           raised_after _ _ _ _ _ _ _
-              (c.written-new.ensures.raised (classes_with_field p a.m a.pc a.object a.field (λ k. field_of k a.field ⊆ after))
-              (gives_fields p a.m a.pc a.object a.field (classes_limit a.t.now) c.with_field-having.result c.from_fields-value.result cl bits
-              c.from_fields-value.ensures.bits
-              after)
-              formed
-              lm
-              lp
-              la)
-              (c.null_used.ensures.raised made formed lm);
+          (c.written-new.ensures.raised (classes_with_field p a.m a.pc a.object a.field (λ k. field_of k a.field ⊆ after))
+          (gives_fields p a.m a.pc a.object a.field (classes_limit a.t.now) c.with_field-having.result c.from_fields-value.result cl bits
+          c.from_fields-value.ensures.bits
+          after)
+          formed
+          lm
+          lp
+          la)
+          (c.null_used.ensures.raised made formed lm);
     }

@@ -21,7 +21,7 @@ returns c =
           let last = replaced c.onward-new.new.w (place_of own) c.register-own.result.bits c.put-arg-2-1.given.0.1 inside in
           let on = (rw (add-one a.pc) at c.onward-new.ensures.raised) formed lm lp in
           written_meanwhile p formed a.m a.pc a.a lm lp la a.value (claim_in a.w.now) _ _ _ f gives
-              (rw (c.put.ensures.memory, c.register_place-place.ensures.value) first)
-              on
-              (rw (c.put-2.ensures.memory, c.register_place-place.ensures.value, sym c.register-own.ensures.value) last);
+          (rw (c.put.ensures.memory, c.register_place-place.ensures.value) first)
+          on
+          (rw (c.put-2.ensures.memory, c.register_place-place.ensures.value, sym c.register-own.ensures.value) last);
     }
