@@ -1,16 +1,12 @@
 -- The callees that the rules numbered 6 name at an address, by the instruction there. Assumes nothing.
 use mathlib.Core.Path.{◌≡◌, refl, sym, ap, ◌∙◌}
 use mathlib.Core.Bool.{true, false, ◌&&◌, ◌||◌}
-use mathlib.Core.List.{List, [], ◌∷◌}
 use Prim.Native.Nat.{ℕ, ◌<◌}
 use native.Mathlib.Decide.{ℕ_discrete}
-use denote.Enum.Declared.{tag_of}
-use types.Run.{OneOf, miss}
 use lib.Dec.{eqb, ltb}
 use borrow.Author.Tests.{lt-ltb, eq-eqb, ne_eqb}
 use Rattle.instruction.specs.declared.Instruction.{Instruction}
 use Rattle.instruction.specs.declared.Instruction.TheVariants.{Nop, Move, Const, Goto, If, IfZero, Binop, Unop, NewInstance, Iget, Iput, Sget, Sput, InvokeVirtual, InvokeStatic, MoveResult, MoveException, Return, ReturnVoid, Throw, InstanceOf, CheckCast}
-use Rattle.instruction.specs.contracts.Instruction.{the_type}
 use Rattle.mask.specs.declared.Mask.{Mask}
 use Rattle.mask.specs.Mask.{has}
 use Rattle.mask.proofs.Sets.{or_end, no_bit}
@@ -28,9 +24,9 @@ one_bit r b q bits l = bits q ∙ rw (no_bit q, lt-ltb q 64 l) (by (ℕ_discrete
     by (yes same) = rw (eq-eqb q b same, eq-eqb b q (sym same))
     by (no other) = rw (ne_eqb q b other, ne_eqb b q (λ e. other (sym e)))
 
--- the variants that are no calls
-abbrev pub others : List ℕ
-others = 0 ∷ 1 ∷ 2 ∷ 3 ∷ 4 ∷ 5 ∷ 6 ∷ 7 ∷ 8 ∷ 9 ∷ 10 ∷ 11 ∷ 12 ∷ 15 ∷ 16 ∷ 17 ∷ 18 ∷ 19 ∷ 20 ∷ 21 ∷ []
+-- an instruction that is no call
+abbrev pub NoCall : Instruction → Type 0
+NoCall i = ((n b r : ℕ) → i ≡ InvokeVirtual n b r → ⊥) × ((n b r : ℕ) → i ≡ InvokeStatic n b r → ⊥)
 
 module _ (p : Program) (c : Claim) (m pc q : ℕ) where
   pub virtual_called : (n b r : ℕ) → instruction_at p m pc ≡ InvokeVirtual n b r → called_by c (rules_at p m pc) q ≡ leads_to p (c (register_at m pc r)) n b q
@@ -40,7 +36,7 @@ module _ (p : Program) (c : Claim) (m pc q : ℕ) where
   pub static_called : (n b r : ℕ) → instruction_at p m pc ≡ InvokeStatic n b r → called_by c (rules_at p m pc) q ≡ eqb n q
   static_called n b r e = ap (λ (i : Instruction). called_by c (rules_of p m pc i) q) e ∙ or_end _
 
-  none_called : (i : Instruction) → OneOf others (tag_of the_type i) → called_by c (rules_of p m pc i) q ≡ false
+  none_called : (i : Instruction) → NoCall i → called_by c (rules_of p m pc i) q ≡ false
   none_called Nop k = refl
   none_called (Move a b) k = refl
   none_called (Const a d) k = refl
@@ -54,8 +50,8 @@ module _ (p : Program) (c : Claim) (m pc q : ℕ) where
   none_called (Iput a b x) k = refl
   none_called (Sget a x) k = refl
   none_called (Sput a x) k = refl
-  none_called (InvokeVirtual n b r) k = absurd (miss others _ tt k)
-  none_called (InvokeStatic n b r) k = absurd (miss others _ tt k)
+  none_called (InvokeVirtual n b r) k = absurd (k.0 n b r refl)
+  none_called (InvokeStatic n b r) k = absurd (k.1 n b r refl)
   none_called (MoveResult a) k = refl
   none_called (MoveException a) k = refl
   none_called (Return a) k = refl
@@ -64,5 +60,5 @@ module _ (p : Program) (c : Claim) (m pc q : ℕ) where
   none_called (InstanceOf a b x) k = refl
   none_called (CheckCast a b) k = refl
 
-  pub other_called : (i : Instruction) → instruction_at p m pc ≡ i → OneOf others (tag_of the_type i) → called_by c (rules_at p m pc) q ≡ false
+  pub other_called : (i : Instruction) → instruction_at p m pc ≡ i → NoCall i → called_by c (rules_at p m pc) q ≡ false
   other_called i e k = ap (λ (j : Instruction). called_by c (rules_of p m pc j) q) e ∙ none_called i k

@@ -72,7 +72,7 @@ pub no_method_lem : (ws : List ℕ) (m pc to : ℕ) → 16 ≤ m → false ≡ r
 no_method_lem ws m pc to l = rw (le-ltb m 16 l) refl
 
 -- where a row is in another, all registers are: any past the 16 lies past the last word at both addresses
-pub registers_in : (ws : List ℕ) (m pc to : ℕ) → row_flows ws m pc to ≡ true → (r : ℕ)
+pub registers_in_lem : (ws : List ℕ) (m pc to : ℕ) → row_flows ws m pc to ≡ true → (r : ℕ)
     → subset (claim_in ws (register_at m pc r)) (claim_in ws (register_at m to r)) ≡ true
 registers_in_lem ws m pc to e r =
     let row = row_in ws (row_of m pc) (row_of m to) in

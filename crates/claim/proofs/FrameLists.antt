@@ -49,7 +49,7 @@ module _ (p : Program) where
             rw (e, add-zero)
             (ap (λ (ds : List Due). f i ++ ds) (joined_cong b (λ k. f (i + suc k)) (λ k. f (i + 1 + k)) (λ k h. ap f (omega arith))))
 
-    pub frames_end : (i : ℕ) → n ≤ i → (s : Progress) → frames_from i s ≡ s
+    pub frames_end_lem : (i : ℕ) → n ≤ i → (s : Progress) → frames_from i s ≡ s
     frames_end_lem i l s =
         let nothing : n - i ≡ 0 = omega arith in
         rw nothing

@@ -1,7 +1,7 @@
 -- The invariant of a run under a claim whose rules hold: every open frame, object and static lies in its masks, every frame but
 -- the bottom one was called where the frame below it waits, and a pending object is one that rules 9 and 10 ask about at the top
 -- frame's address. Need not be believed to read the theorem. Definitions only.
-use Rattle.std.specs.Prelude.{◌≡◌, true, List, [], ◌∷◌, ℕ, ◌<◌, length, get_or}
+use Rattle.std.specs.Prelude.{◌≡◌, List, [], ◌∷◌, ℕ, ◌<◌, length, get_or}
 use Rattle.program.specs.Program.{Program, class_count, code_length, instruction_at}
 use Rattle.program.specs.Lists.{Every}
 use Rattle.machine.specs.declared.Value.{Value}

@@ -14,7 +14,6 @@ use Rattle.program.specs.Program.{Program, class_count}
 use Rattle.program.specs.Tables.{program_in}
 use Rattle.program.proofs.Read.{classes_limit}
 use Rattle.search.specs.Search.{below}
-use Rattle.flow.specs.Flows.{some}
 use Rattle.flow.proofs.Callees.{some_at, some_one}
 use Rattle.slots.specs.Layout.{mask_of}
 use Rattle.sets.specs.Sets.{fails_cast, sets_of}

@@ -13,7 +13,7 @@ use Rattle.drive.specs.Models.{Lent}
 use Rattle.drive.proofs.Driver.{Same}
 use Rattle.drive.proofs.Turns.{same_turns}
 use Rattle.drive.proofs.Keeps.{same_self, pick_keeps, loop_keeps}
-use Rattle.turns.specs.Turns.{pass_one, pass_done, Shifting, shift_in, popped, resumed, moved, wrote, shifted_on, entered_on, shift_done}
+use Rattle.turns.specs.Turns.{pass_one, pass_done, Shifting, shift_in, popped, resumed, moved, shifted_on, entered_on, shift_done}
 use Rattle.turns.specs.Turns.{make_shifting, static_shifting, virtual_shifting, leave_shifting, throw_shifting, make_done, static_done}
 use Rattle.turns.specs.Turns.{virtual_done, leave_done, throw_done, from_throw, from_exit, from_virtual, applied, rest_done, executed}
 use Rattle.turns.specs.Turns.{new_shifting, new_done, from_raises}

@@ -2,13 +2,12 @@
 use mathlib.Core.Path.{ap, ◌∙◌}
 use mathlib.Core.List.{List}
 use Prim.Native.Nat.{ℕ, ◌+◌}
-use native.Mathlib.Omega.{arith}
 use lib.ListN.{set}
 use Rattle.calls.proofs.put_call.Goals as goal
 
 pub shape_of-memory : goal.shape_of-memory
 shape_of-memory c =
-    c.put-3.auto.0 ∙ c.put-2.auto.0 ∙ c.put.auto.0
+    c.put-3.auto.memory ∙ c.put-2.auto.memory ∙ c.put.auto.memory
 
 pub returns : goal.returns
 returns c =

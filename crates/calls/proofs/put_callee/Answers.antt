@@ -1,13 +1,12 @@
 -- `calls::put_callee` meets its contract: one call or none. Assumes nothing.
 use mathlib.Core.Path.{◌≡◌, sym, ◌∙◌}
 use mathlib.Core.Bool.{true, false}
-use native.Mathlib.Omega.{arith}
 use Rattle.mask.specs.Mask.{has}
 use Rattle.calls.proofs.Writing.{written_none, written_one}
 use Rattle.calls.proofs.put_callee.Goals as goal
 
 pub shape_of-memory-then-has : goal.shape_of-memory-then-has
-shape_of-memory-then-has c = c.put_call.auto.0
+shape_of-memory-then-has c = c.put_call.auto.memory
 
 pub returns-then-has : goal.returns-then-has
 returns-then-has c =

@@ -1,13 +1,8 @@
 -- `carry::all_fields`: what its loops keep, and what falls.
-use mathlib.Core.Path.{◌≡◌, sym, ◌∙◌}
-use mathlib.Core.Bool.{Bool, true, false}
+use mathlib.Core.Path.{◌≡◌}
+use mathlib.Core.Bool.{Bool, true}
 use mathlib.Core.List.{List}
 use Prim.Native.Nat.{ℕ, ◌≤◌, ◌<◌, ◌-◌}
-use native.Mathlib.Omega.{arith}
-use borrow.Author.Count.{below_more}
-use borrow.Author.Tests.{not-true, not-false}
-use Rattle.mask.proofs.Laws.{every_all, every_not}
-use Rattle.program.specs.Program.{class_count}
 use Rattle.program.specs.Tables.{program_in}
 use Rattle.flow.specs.Flows.{kept}
 use Rattle.slots.specs.Layout.{claim_in}

@@ -1,18 +1,12 @@
 -- `carry::all_statics` meets its contract. The loop's invariant: every static before the next one passes its test. Assumes nothing.
 -- the test of static x
 use mathlib.Core.Path.{◌≡◌, sym, ◌∙◌}
-use mathlib.Core.Bool.{Bool, true, false}
-use mathlib.Core.List.{List}
-use Prim.Native.Nat.{ℕ, ◌≤◌, ◌<◌, ◌-◌}
+use mathlib.Core.Bool.{true, false}
+use Prim.Native.Nat.{◌<◌}
 use native.Mathlib.Omega.{arith}
 use borrow.Author.Count.{below_more}
-use borrow.Author.Tests.{not-true, not-false}
-use Rattle.mask.specs.Mask.{zero_bit}
 use Rattle.mask.proofs.Laws.{every_all, every_not}
 use Rattle.program.specs.Tables.{program_in}
-use Rattle.flow.specs.Claim.{static_of}
-use Rattle.flow.specs.Flows.{◌∈◌, kept}
-use Rattle.slots.specs.Layout.{claim_in}
 use Rattle.carry.proofs.Tests.{has_of}
 use Rattle.carry.proofs.all_statics.Invariants.{test}
 use Rattle.carry.proofs.all_statics.Goals as goal
@@ -26,14 +20,14 @@ returns-then-not-has c =
     let p = program_in a.t.now in
     let l : c.loop-x.x < p.statics = omega arith in
     let e : test a.w.now c.loop-x.x ≡ false =
-    sym (has_of _ _ _ _ c.has.ensures.value c.of_static-mask.ensures.value) ∙ not-true _ c.if-not-has.true in
+    sym (has_of _ _ _ _ c.has.ensures.value c.of_static-mask.ensures.value) ∙ c.if-not-has.true in
     record { value = sym (every_not p.statics (test a.w.now) c.loop-x.x l e) }
 
 pub loop-x-preserved : goal.loop-x-preserved
 loop-x-preserved c =
     let a = c.args in
     let e : test a.w.now c.loop-x.x ≡ true =
-    sym (has_of _ _ _ _ c.has.ensures.value c.of_static-mask.ensures.value) ∙ not-false _ c.if-not-has.false in
+    sym (has_of _ _ _ _ c.has.ensures.value c.of_static-mask.ensures.value) ∙ c.if-not-has.false in
     (omega arith, below_more (λ i. test a.w.now i ≡ true) c.loop-x.x c.loop-x.invariant.1 e)
 
 pub returns : goal.returns

@@ -1,18 +1,12 @@
 -- `carry::all_statics`: what its loops keep, and what falls.
-use mathlib.Core.Path.{◌≡◌, sym, ◌∙◌}
-use mathlib.Core.Bool.{Bool, true, false}
+use mathlib.Core.Path.{◌≡◌}
+use mathlib.Core.Bool.{Bool, true}
 use mathlib.Core.List.{List}
 use Prim.Native.Nat.{ℕ, ◌≤◌, ◌<◌, ◌-◌}
-use native.Mathlib.Omega.{arith}
-use borrow.Author.Count.{below_more}
-use borrow.Author.Tests.{not-true, not-false}
 use Rattle.mask.specs.Mask.{zero_bit}
-use Rattle.mask.proofs.Laws.{every_all, every_not}
-use Rattle.program.specs.Tables.{program_in}
 use Rattle.flow.specs.Claim.{static_of}
 use Rattle.flow.specs.Flows.{◌∈◌, kept}
 use Rattle.slots.specs.Layout.{claim_in}
-use Rattle.carry.proofs.Tests.{has_of}
 use Rattle.carry.proofs.all_statics.Given as goal
 
 abbrev pub test : List ℕ → ℕ → Bool

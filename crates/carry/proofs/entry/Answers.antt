@@ -1,19 +1,13 @@
 -- `carry::entry` meets its contract. The loop's invariant: every register before the next one passes its test. Assumes nothing.
 -- the test of register r
 use mathlib.Core.Path.{◌≡◌, refl, sym, ◌∙◌}
-use mathlib.Core.Bool.{Bool, true, false}
-use mathlib.Core.List.{List}
-use Prim.Native.Nat.{ℕ, ◌≤◌, ◌<◌, ◌-◌}
+use mathlib.Core.Bool.{true, false}
+use Prim.Native.Nat.{◌<◌, ◌-◌}
 use native.Mathlib.Omega.{arith}
 use borrow.Author.Count.{below_more}
-use borrow.Author.Tests.{not-true, not-false}
-use Rattle.mask.specs.Mask.{zero_bit}
 use Rattle.mask.proofs.Laws.{every_all, every_not}
 use Rattle.program.specs.Program.{registers, arguments}
 use Rattle.program.specs.Tables.{program_in}
-use Rattle.flow.specs.Claim.{register_at}
-use Rattle.flow.specs.Flows.{◌∈◌, kept}
-use Rattle.slots.specs.Layout.{claim_in}
 use Rattle.carry.proofs.Tests.{and_passed, and_failed, has_of}
 use Rattle.carry.proofs.entry.Invariants.{test}
 use Rattle.carry.proofs.entry.Goals as goal
@@ -28,14 +22,14 @@ returns-then-not-has c =
     let n = registers p a.m - arguments p a.m in
     let l : c.loop-r.r < n = omega arith in
     let e : test a.w.now a.m c.loop-r.r ≡ false =
-    sym (has_of _ _ _ _ c.has.ensures.value c.register-mask.ensures.value) ∙ not-true _ c.if-not-has.true in
+    sym (has_of _ _ _ _ c.has.ensures.value c.register-mask.ensures.value) ∙ c.if-not-has.true in
     record { value = and_failed _ _ _ refl (sym (every_not n (test a.w.now a.m) c.loop-r.r l e)) }
 
 pub loop-r-preserved : goal.loop-r-preserved
 loop-r-preserved c =
     let a = c.args in
     let e : test a.w.now a.m c.loop-r.r ≡ true =
-    sym (has_of _ _ _ _ c.has.ensures.value c.register-mask.ensures.value) ∙ not-false _ c.if-not-has.false in
+    sym (has_of _ _ _ _ c.has.ensures.value c.register-mask.ensures.value) ∙ c.if-not-has.false in
     (omega arith, below_more (λ i. test a.w.now a.m i ≡ true) c.loop-r.r c.loop-r.invariant.1 e)
 
 pub returns : goal.returns

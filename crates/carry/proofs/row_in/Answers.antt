@@ -2,13 +2,12 @@
 -- other's. Assumes nothing.
 use mathlib.Core.Path.{◌≡◌, sym, ap, ◌∙◌}
 use mathlib.Core.Bool.{Bool, ◌&&◌}
-use Prim.Native.Nat.{ℕ, ◌≤◌, ◌-◌}
+use Prim.Native.Nat.{ℕ}
 use native.Mathlib.Numerals.{add-one}
 use native.Mathlib.Omega.{arith}
-use Rattle.mask.specs.Mask.{every, subset}
+use Rattle.mask.specs.Mask.{every}
 use Rattle.mask.proofs.Laws.{subset_all}
 use Rattle.mask.proofs.Sets.{every_more}
-use Rattle.slots.specs.Layout.{mask_of}
 use Rattle.carry.specs.Carried.{word_in}
 use Rattle.carry.proofs.Rows.{gathered}
 use Rattle.carry.proofs.row_in.Goals as goal

@@ -1,15 +1,9 @@
 -- `carry::row_in`: what its loops keep, and what falls.
-use mathlib.Core.Path.{◌≡◌, sym, ap, ◌∙◌}
-use mathlib.Core.Bool.{Bool, ◌&&◌}
-use Prim.Native.Nat.{ℕ, ◌≤◌, ◌-◌}
-use native.Mathlib.Numerals.{add-one}
-use native.Mathlib.Omega.{arith}
+use mathlib.Core.Path.{◌≡◌}
+use Prim.Native.Nat.{◌≤◌, ◌-◌}
 use Rattle.mask.specs.Mask.{every, subset}
-use Rattle.mask.proofs.Laws.{subset_all}
-use Rattle.mask.proofs.Sets.{every_more}
 use Rattle.slots.specs.Layout.{mask_of}
 use Rattle.carry.specs.Carried.{word_in}
-use Rattle.carry.proofs.Rows.{gathered}
 use Rattle.carry.proofs.row_in.Given as goal
 
 abbrev pub invariant-loop-r : goal.invariant-loop-r

@@ -7,34 +7,11 @@ use Rattle.checker.proofs.check.Goals as goal
 
 pub returns : goal.returns
 returns c =
+    let a = c.args in
     let e = c.check_by.ensures in
     record {
-      verdict = (let a = c.args in (
-        e.0,
-        (
-          (ap number_of e.0, ap values_of e.0),
-          (e.1, λ k f. accepted_covered a.program.now a.claim.now a.memory.now _ _ k f e.0 e.1),
-        ),
-      )).0;
-      numbers = (let a = c.args in (
-        e.0,
-        (
-          (ap number_of e.0, ap values_of e.0),
-          (e.1, λ k f. accepted_covered a.program.now a.claim.now a.memory.now _ _ k f e.0 e.1),
-        ),
-      )).1.0;
-      memory = (let a = c.args in (
-        e.0,
-        (
-          (ap number_of e.0, ap values_of e.0),
-          (e.1, λ k f. accepted_covered a.program.now a.claim.now a.memory.now _ _ k f e.0 e.1),
-        ),
-      )).1.1.0;
-      coverage = (let a = c.args in (
-        e.0,
-        (
-          (ap number_of e.0, ap values_of e.0),
-          (e.1, λ k f. accepted_covered a.program.now a.claim.now a.memory.now _ _ k f e.0 e.1),
-        ),
-      )).1.1.1;
+      verdict = e.verdict;
+      numbers = (ap number_of e.verdict, ap values_of e.verdict);
+      memory = e.memory;
+      coverage = λ k f. accepted_covered a.program.now a.claim.now a.memory.now _ _ k f e.verdict e.memory;
     }

@@ -21,7 +21,7 @@ returns-then-broken-ne-NO_RULE c =
     }
 
 pub shape_of-memory : goal.shape_of-memory
-shape_of-memory c = c.write_calls.auto.1.1.0
+shape_of-memory c = c.write_calls.auto.memory
 
 pub returns : goal.returns
 returns c =

@@ -16,16 +16,9 @@ returns-then-number_of-eq0 c =
     let a = c.args in
     let p = program_in a.t.now in
     record {
-      answer = (let told = c.take-answer.ensures in (
-        told.0,
-        masks_read (read_claim p a.text.now) (numbered p a.text.now) _ no_masks told.1
-            (sym told.0.0 ∙ sym c.number_of.ensures.value ∙ c.if-number_of-eq0.true),
-      )).0;
-      memory = (let told = c.take-answer.ensures in (
-        told.0,
-        masks_read (read_claim p a.text.now) (numbered p a.text.now) _ no_masks told.1
-            (sym told.0.0 ∙ sym c.number_of.ensures.value ∙ c.if-number_of-eq0.true),
-      )).1;
+      answer = c.take-answer.ensures.answer;
+      memory = let told = c.take-answer.ensures in masks_read (read_claim p a.text.now) (numbered p a.text.now) _ no_masks told.masks
+          (sym told.answer.0 ∙ sym c.number_of.ensures.value ∙ c.if-number_of-eq0.true);
     }
 
 pub returns : goal.returns
@@ -33,14 +26,7 @@ unfolding no_masks
 returns c =
     let a = c.args in
     record {
-      answer = (let told = c.take-answer.ensures in (
-        told.0,
-        masks_refused (read_claim (program_in a.t.now) a.text.now) no_masks
-            (λ z. c.if-number_of-eq0.false (c.number_of.ensures.value ∙ told.0.0 ∙ z)),
-      )).0;
-      memory = (let told = c.take-answer.ensures in (
-        told.0,
-        masks_refused (read_claim (program_in a.t.now) a.text.now) no_masks
-            (λ z. c.if-number_of-eq0.false (c.number_of.ensures.value ∙ told.0.0 ∙ z)),
-      )).1;
+      answer = c.take-answer.ensures.answer;
+      memory = let told = c.take-answer.ensures in masks_refused (read_claim (program_in a.t.now) a.text.now) no_masks
+          (λ z. c.if-number_of-eq0.false (c.number_of.ensures.value ∙ told.answer.0 ∙ z));
     }

@@ -15,16 +15,9 @@ pub returns-then-number_of-ne0 : goal.returns-then-number_of-ne0
 returns-then-number_of-ne0 c =
     let a = c.args in
     record {
-      answer = (let told = c.take-answer.ensures in (
-        told.0,
-        masks_refused (read_claim (program_in a.t.now) a.text.now) a.w.now
-            (λ z. c.if-number_of-ne0.true (c.number_of.ensures.value ∙ told.0.0 ∙ z)),
-      )).0;
-      memory = (let told = c.take-answer.ensures in (
-        told.0,
-        masks_refused (read_claim (program_in a.t.now) a.text.now) a.w.now
-            (λ z. c.if-number_of-ne0.true (c.number_of.ensures.value ∙ told.0.0 ∙ z)),
-      )).1;
+      answer = c.take-answer.ensures.answer;
+      memory = let told = c.take-answer.ensures in masks_refused (read_claim (program_in a.t.now) a.text.now) a.w.now
+          (λ z. c.if-number_of-ne0.true (c.number_of.ensures.value ∙ told.answer.0 ∙ z));
     }
 
 pub returns : goal.returns
@@ -32,14 +25,7 @@ returns c =
     let a = c.args in
     let p = program_in a.t.now in
     record {
-      answer = (let told = c.take-answer.ensures in (
-        told.0,
-        masks_read (read_claim p a.text.now) (numbered p a.text.now) _ a.w.now told.1
-            (sym told.0.0 ∙ sym c.number_of.ensures.value ∙ c.if-number_of-ne0.false),
-      )).0;
-      memory = (let told = c.take-answer.ensures in (
-        told.0,
-        masks_read (read_claim p a.text.now) (numbered p a.text.now) _ a.w.now told.1
-            (sym told.0.0 ∙ sym c.number_of.ensures.value ∙ c.if-number_of-ne0.false),
-      )).1;
+      answer = c.take-answer.ensures.answer;
+      memory = let told = c.take-answer.ensures in masks_read (read_claim p a.text.now) (numbered p a.text.now) _ a.w.now told.masks
+          (sym told.answer.0 ∙ sym c.number_of.ensures.value ∙ c.if-number_of-ne0.false);
     }

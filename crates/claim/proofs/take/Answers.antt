@@ -7,7 +7,7 @@ use Rattle.claim.proofs.take.Goals as goal
 pub returns-then-text-gt262144 : goal.returns-then-text-gt262144
 returns-then-text-gt262144 c =
     let a = c.args in
-    record { answer = (told_long (program_in a.t.now) a.text.now _ (omega (arith, c.if-text-gt262144.true))).0; masks = (told_long (program_in a.t.now) a.text.now _ (omega (arith, c.if-text-gt262144.true))).1 }
+    record { answer = (told_long (program_in a.t.now) a.text.now a.w.now (omega (arith, c.if-text-gt262144.true))).0; masks = (told_long (program_in a.t.now) a.text.now a.w.now (omega (arith, c.if-text-gt262144.true))).1 }
 
 pub returns-then-end-ne0 : goal.returns-then-end-ne0
 returns-then-end-ne0 c =

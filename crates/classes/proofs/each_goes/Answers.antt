@@ -2,16 +2,15 @@
 -- a test of each class in a set, by the test of each class up to 59
 use mathlib.Core.Path.{◌≡◌, sym, ◌∙◌}
 use mathlib.Core.Bool.{Bool, true, false, not, ◌||◌}
-use Prim.Native.Nat.{ℕ, ◌≤◌, ◌<◌, ◌-◌}
+use Prim.Native.Nat.{ℕ, ◌<◌}
 use native.Mathlib.Omega.{arith}
 use borrow.Author.Count.{below_more}
-use borrow.Author.Tests.{not-true, not-false}
 use Rattle.mask.specs.declared.Mask.{Mask}
 use Rattle.mask.specs.Mask.{has}
 use Rattle.mask.proofs.Laws.{every_all, every_not}
 use Rattle.flow.specs.Claim.{field_of}
 use Rattle.slots.specs.Layout.{claim_in}
-use Rattle.classes.specs.Fields.{each_of, flows, flows_of}
+use Rattle.classes.specs.Fields.{each_of, flows}
 use Rattle.classes.proofs.each_goes.Goals as goal
 
 module _ (set : Mask) (test : ℕ → Bool) where
@@ -32,13 +31,13 @@ returns-then-not-goes_of c =
     record {
       value = sym
           (each_not a.set (λ k. flows a.read a.other (claim_in a.w.now (field_of k a.x))) c.loop-k.k (omega arith)
-          (sym c.goes_of.ensures.value ∙ not-true _ c.if-not-goes_of.true));
+          (sym c.goes_of.ensures.value ∙ c.if-not-goes_of.true));
     }
 
 pub loop-k-preserved : goal.loop-k-preserved
 loop-k-preserved c = (
   omega arith,
-  λ j l. below_more _ _ c.loop-k.invariant.1 (sym c.goes_of.ensures.value ∙ not-false _ c.if-not-goes_of.false) j (omega arith),
+  λ j l. below_more _ _ c.loop-k.invariant.1 (sym c.goes_of.ensures.value ∙ c.if-not-goes_of.false) j (omega arith),
 )
 
 pub returns : goal.returns

@@ -1,9 +1,6 @@
 -- `rows::put_cells` meets its contract. Assumes nothing.
-use Prim.Native.Nat.{◌-◌, ◌≤◌}
 use borrow.Author.Rules.{rules}
-use Rattle.page.specs.Page.{Put}
 use Rattle.page.proofs.Puts.{put_none, put_length}
-use Rattle.rows.specs.Rows.{cells_text}
 use Rattle.rows.proofs.Loops.{put_joined, put_all}
 use Rattle.rows.proofs.put_cells.Goals as goal
 

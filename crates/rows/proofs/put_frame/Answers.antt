@@ -1,5 +1,4 @@
 -- `rows::put_frame` meets its contract. Assumes nothing.
-use borrow.Author.Rules.{rules}
 use Rattle.rows.proofs.put_frame.Goals as goal
 
 pub returns : goal.returns

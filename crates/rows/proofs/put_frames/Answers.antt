@@ -1,9 +1,6 @@
 -- `rows::put_frames` meets its contract. Assumes nothing.
-use Prim.Native.Nat.{◌-◌, ◌≤◌}
 use borrow.Author.Rules.{rules}
-use Rattle.page.specs.Page.{Put}
 use Rattle.page.proofs.Puts.{put_none, put_length}
-use Rattle.program.specs.Tables.{program_in}
 use Rattle.rows.specs.Rows.{frame_rows}
 use Rattle.rows.proofs.Loops.{put_joined, put_all}
 use Rattle.rows.proofs.put_frames.Goals as goal

@@ -1,11 +1,8 @@
 -- `rows::put_frames`: what its loops keep, and what falls.
 use Prim.Native.Nat.{◌-◌, ◌≤◌}
-use borrow.Author.Rules.{rules}
 use Rattle.page.specs.Page.{Put}
-use Rattle.page.proofs.Puts.{put_none, put_length}
 use Rattle.program.specs.Tables.{program_in}
 use Rattle.rows.specs.Rows.{frame_rows}
-use Rattle.rows.proofs.Loops.{put_joined, put_all}
 use Rattle.rows.proofs.put_frames.Given as goal
 
 abbrev pub invariant-loop-i : goal.invariant-loop-i

@@ -1,9 +1,6 @@
 -- `rows::put_heads` meets its contract. Assumes nothing.
-use Prim.Native.Nat.{◌-◌, ◌≤◌}
 use borrow.Author.Rules.{rules}
-use Rattle.page.specs.Page.{Put}
 use Rattle.page.proofs.Puts.{put_none, put_then, put_length}
-use Rattle.rows.specs.Rows.{heads_text}
 use Rattle.rows.proofs.Loops.{put_joined, put_all}
 use Rattle.rows.proofs.put_heads.Goals as goal
 

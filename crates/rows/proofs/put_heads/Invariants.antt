@@ -1,10 +1,7 @@
 -- `rows::put_heads`: what its loops keep, and what falls.
 use Prim.Native.Nat.{◌-◌, ◌≤◌}
-use borrow.Author.Rules.{rules}
 use Rattle.page.specs.Page.{Put}
-use Rattle.page.proofs.Puts.{put_none, put_then, put_length}
 use Rattle.rows.specs.Rows.{heads_text}
-use Rattle.rows.proofs.Loops.{put_joined, put_all}
 use Rattle.rows.proofs.put_heads.Given as goal
 
 abbrev pub invariant-loop-i : goal.invariant-loop-i

@@ -1,6 +1,5 @@
 -- `rows::put_objects` meets its contract. Assumes nothing.
 use native.Mathlib.Omega.{arith}
-use borrow.Author.Rules.{rules}
 use Rattle.program.proofs.Read.{fields_limit}
 use Rattle.rows.proofs.put_objects.Goals as goal
 

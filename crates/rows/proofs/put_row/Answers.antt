@@ -1,5 +1,4 @@
 -- `rows::put_row` meets its contract. Assumes nothing.
-use borrow.Author.Rules.{rules}
 use Rattle.page.proofs.Puts.{put_then}
 use Rattle.rows.proofs.put_row.Goals as goal
 

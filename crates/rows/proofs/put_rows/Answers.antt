@@ -1,8 +1,6 @@
 -- `rows::put_rows` meets its contract. Assumes nothing.
-use Prim.Native.Nat.{◌-◌, ◌≤◌}
 use native.Mathlib.Omega.{arith}
 use borrow.Author.Rules.{rules}
-use Rattle.page.specs.Page.{Put}
 use Rattle.page.proofs.Puts.{put_none, put_length}
 use Rattle.rows.specs.Rows.{rows_text}
 use Rattle.rows.proofs.Loops.{place_most, put_joined, put_all}

@@ -1,11 +1,7 @@
 -- `rows::put_rows`: what its loops keep, and what falls.
 use Prim.Native.Nat.{◌-◌, ◌≤◌}
-use native.Mathlib.Omega.{arith}
-use borrow.Author.Rules.{rules}
 use Rattle.page.specs.Page.{Put}
-use Rattle.page.proofs.Puts.{put_none, put_length}
 use Rattle.rows.specs.Rows.{rows_text}
-use Rattle.rows.proofs.Loops.{place_most, put_joined, put_all}
 use Rattle.rows.proofs.put_rows.Given as goal
 
 abbrev pub invariant-loop-i : goal.invariant-loop-i

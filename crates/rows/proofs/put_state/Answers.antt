@@ -1,5 +1,4 @@
 -- `rows::put_state` meets its contract. Assumes nothing.
-use borrow.Author.Rules.{rules}
 use Rattle.page.proofs.Puts.{put_then}
 use Rattle.rows.proofs.put_state.Goals as goal
 

@@ -1,6 +1,5 @@
 -- `rows::put_statics` meets its contract. Assumes nothing.
 use native.Mathlib.Omega.{arith}
-use borrow.Author.Rules.{rules}
 use Rattle.program.proofs.Read.{statics_are}
 use Rattle.rows.proofs.put_statics.Goals as goal
 

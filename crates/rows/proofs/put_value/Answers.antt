@@ -2,7 +2,6 @@
 use mathlib.Core.Path.{sym, ap}
 use mathlib.Core.List.{List, ◌∷◌}
 use Prim.Native.Nat.{ℕ}
-use borrow.Author.Rules.{rules}
 use Rattle.page.proofs.Puts.{put_then, put_as}
 use Rattle.rows.proofs.Values.{number_word, object_word_lem}
 use Rattle.rows.proofs.put_value.Goals as goal

@@ -1,6 +1,4 @@
 -- `rules::of_instruction` meets its contract: one case an instruction. Assumes nothing.
-use mir.Syntax.{w32}
-use mir.ValLaws.{to_z-of_z}
 use Rattle.rules.proofs.of_instruction.Goals as goal
 
 pub to_next-requires : goal.to_next-requires
@@ -65,12 +63,6 @@ returns-in-Nop c = record { value = rw c.in-Nop.is c.to_next.ensures.value }
 
 pub returns-in-Move : goal.returns-in-Move
 returns-in-Move c = record { value = rw c.in-Move.is c.moved.ensures.value }
-
-pub returns-in-Const : goal.returns-in-Const
-returns-in-Const c =
-    let i = c.i-in-Const-1.given in
-    let fits = c.known_told-in-Const-1.given.1.0.1 in
-    record { value = rw i.1 (rw (to_z-of_z w32 i.0.1.0 (record { sfits = fits })) at c.constant.ensures.value) }
 
 pub returns-in-Goto : goal.returns-in-Goto
 returns-in-Goto c = record { value = rw c.in-Goto.is c.to_target.ensures.value }

@@ -13,14 +13,16 @@ out false true false = refl
 out false false d = refl
 
 pub returns-then-is_in : goal.returns-then-is_in
-returns-then-is_in c i =
-    let a = c.args in
-    record {
-      bits = c.with.ensures.bits i
-          ∙ ap (λ (t : Bool). has a.set i || (eqb i a.k && t)) (sym (and_end (ltb i 64)) ∙ ap (◌&&◌ (ltb i 64)) (sym c.if-is_in.true));
-    }
+returns-then-is_in c = record {
+  bits = λ i.
+      let a = c.args in
+      c.with.ensures.bits i
+      ∙ ap (λ (t : Bool). has a.set i || (eqb i a.k && t)) (sym (and_end (ltb i 64)) ∙ ap (◌&&◌ (ltb i 64)) (sym c.if-is_in.true));
+}
 
 pub returns-else-is_in : goal.returns-else-is_in
-returns-else-is_in c i =
-    let a = c.args in
-    record { bits = rw c.if-is_in.false (out (has a.set i) (eqb i a.k) (ltb i 64)) }
+returns-else-is_in c = record {
+  bits = λ i.
+      let a = c.args in
+      rw c.if-is_in.false (out (has a.set i) (eqb i a.k) (ltb i 64));
+}

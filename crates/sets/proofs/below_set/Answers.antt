@@ -1,10 +1,9 @@
 -- `sets::below_set` meets its contract. The loop's invariant: the set has the classes before the next one that are at or below class j. Assumes nothing.
-use mathlib.Core.Path.{◌≡◌, ◌∙◌}
+use mathlib.Core.Path.{◌∙◌}
 use mathlib.Core.Bool.{◌&&◌}
-use Prim.Native.Nat.{ℕ, ◌-◌, ◌<◌}
+use Prim.Native.Nat.{◌<◌}
 use native.Mathlib.Omega.{arith}
 use lib.Dec.{ltb}
-use Rattle.mask.specs.Mask.{has}
 use Rattle.program.specs.Program.{class_count}
 use Rattle.program.specs.Tables.{program_in}
 use Rattle.program.proofs.Read.{classes_limit}
@@ -29,7 +28,9 @@ loop-k-preserved c =
     c.loop-k.invariant
 
 pub returns : goal.returns
-returns c k =
-    let a = c.args in
-    let p = program_in a.t.now in
-    record { bits = c.loop-k.invariant k ∙ finish (class_count p) c.loop-k.k k (below p k a.j) (omega (arith, c.class_count-n.ensures.value)) }
+returns c = record {
+  bits = λ k.
+      let a = c.args in
+      let p = program_in a.t.now in
+      c.loop-k.invariant k ∙ finish (class_count p) c.loop-k.k k (below p k a.j) (omega (arith, c.class_count-n.ensures.value));
+}

@@ -1,16 +1,12 @@
 -- `sets::below_set`: what its loops keep, and what falls.
-use mathlib.Core.Path.{◌≡◌, ◌∙◌}
+use mathlib.Core.Path.{◌≡◌}
 use mathlib.Core.Bool.{◌&&◌}
-use Prim.Native.Nat.{ℕ, ◌-◌, ◌<◌}
-use native.Mathlib.Omega.{arith}
+use Prim.Native.Nat.{ℕ, ◌-◌}
 use lib.Dec.{ltb}
 use Rattle.mask.specs.Mask.{has}
 use Rattle.program.specs.Program.{class_count}
 use Rattle.program.specs.Tables.{program_in}
-use Rattle.program.proofs.Read.{classes_limit}
 use Rattle.search.specs.Search.{below}
-use Rattle.sets.proofs.Adding.{added, finish}
-use Rattle.sets.proofs.Upward.{below_start, below_is}
 use Rattle.sets.proofs.below_set.Given as goal
 
 abbrev pub invariant-loop-k : goal.invariant-loop-k

@@ -1,10 +1,9 @@
 -- `sets::class_set` meets its contract. The loop's invariant: the set has the classes before the next one. Assumes nothing.
-use mathlib.Core.Path.{◌≡◌, ◌∙◌}
+use mathlib.Core.Path.{◌∙◌}
 use mathlib.Core.Bool.{true, ◌&&◌}
-use Prim.Native.Nat.{ℕ, ◌-◌, ◌<◌}
+use Prim.Native.Nat.{◌<◌}
 use native.Mathlib.Omega.{arith}
 use lib.Dec.{ltb}
-use Rattle.mask.specs.Mask.{has}
 use Rattle.mask.proofs.Sets.{and_end}
 use Rattle.program.specs.Program.{class_count}
 use Rattle.program.specs.Tables.{program_in}
@@ -29,10 +28,10 @@ loop-k-preserved c =
     c.loop-k.invariant
 
 pub returns : goal.returns
-returns c k =
-    let p = program_in c.args.t.now in
-    record {
-      bits = c.loop-k.invariant k
-          ∙ finish (class_count p) c.loop-k.k k true (omega (arith, c.class_count-n.ensures.value))
-          ∙ and_end (ltb k (class_count p));
-    }
+returns c = record {
+  bits = λ k.
+      let p = program_in c.args.t.now in
+      c.loop-k.invariant k
+      ∙ finish (class_count p) c.loop-k.k k true (omega (arith, c.class_count-n.ensures.value))
+      ∙ and_end (ltb k (class_count p));
+}

@@ -1,11 +1,10 @@
 -- `sets::fill` meets its contract. The loop's invariant: the words before the next one are the sets'; after the first there are 80. Assumes nothing.
 use mathlib.Core.Path.{◌≡◌, ap, ◌∙◌}
 use mathlib.Core.List.{List}
-use Prim.Native.Nat.{ℕ, ◌-◌, ◌<◌, ◌≤◌}
+use Prim.Native.Nat.{ℕ}
 use native.Mathlib.Omega.{arith}
 use lib.ListN.{length, get_or, length-set}
 use Rattle.program.specs.Tables.{program_in}
-use Rattle.sets.specs.Sets.{set_word}
 use Rattle.sets.proofs.Words.{words_more, words_all}
 use Rattle.sets.proofs.fill.Goals as goal
 

@@ -1,12 +1,9 @@
 -- `sets::fill`: what its loops keep, and what falls.
-use mathlib.Core.Path.{◌≡◌, ap, ◌∙◌}
-use mathlib.Core.List.{List}
+use mathlib.Core.Path.{◌≡◌}
 use Prim.Native.Nat.{ℕ, ◌-◌, ◌<◌, ◌≤◌}
-use native.Mathlib.Omega.{arith}
-use lib.ListN.{length, get_or, length-set}
+use lib.ListN.{length, get_or}
 use Rattle.program.specs.Tables.{program_in}
 use Rattle.sets.specs.Sets.{set_word}
-use Rattle.sets.proofs.Words.{words_more, words_all}
 use Rattle.sets.proofs.fill.Given as goal
 
 abbrev pub invariant-loop-j : goal.invariant-loop-j

@@ -1,7 +1,6 @@
 -- `slots::element` meets its contract: past its end a list has the default. Assumes nothing.
 use mathlib.Core.Path.{sym}
 use lib.ListN.{get_or-eq_default}
-use borrow.Author.Rules.{rules}
 use Rattle.slots.proofs.element.Goals as goal
 
 pub returns-else-i-ws : goal.returns-else-i-ws

@@ -2,7 +2,6 @@
 use mathlib.Core.Path.{refl, sym}
 use lib.ListN.{length-set}
 use lib.Seq.{set_out}
-use borrow.Author.Rules.{rules}
 use Rattle.slots.proofs.put.Goals as goal
 
 pub bounds-w-i : goal.bounds-w-i

@@ -1,5 +1,5 @@
 -- What is passed and what is still to be passed come to all arguments.
-use Rattle.std.proofs.Common.{◌≡◌, ℕ}
+use Rattle.std.proofs.Common.{◌≡◌}
 use Rattle.shift.specs.Shift.{passes_of}
 use Rattle.drive.specs.Models.{lent, looped}
 use Rattle.turns.specs.Turns.{pass_one, pass_done}

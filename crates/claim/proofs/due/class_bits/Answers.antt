@@ -1,7 +1,6 @@
 -- `claim::due::class_bits` meets its contract. Assumes nothing.
 use borrow.Author.Tests.{lt-ltb, le-ltb}
 use Rattle.claim.proofs.FrameTests.{power_least, power_shifted}
-use borrow.Author.Rules.{rules}
 use Rattle.claim.proofs.due.class_bits.Goals as goal
 
 pub overflow_sub-result : goal.overflow_sub-result

@@ -1,10 +1,9 @@
 -- `claim::line::put_mask` meets its contract. Assumes nothing.
 use mathlib.Core.Path.{refl, sym, ◌∙◌}
-use borrow.Author.Tests.{not-true, not-false}
 use Rattle.claim.proofs.line.put_mask.Goals as goal
 
 pub returns-then-not-subset : goal.returns-then-not-subset
-returns-then-not-subset c = record { value = sym (not-true _ c.if-not-subset.true) ∙ c.subset.ensures.value; memory = refl }
+returns-then-not-subset c = record { value = sym c.if-not-subset.true ∙ c.subset.ensures.value; memory = refl }
 
 pub returns : goal.returns
-returns c = record { value = sym (not-false _ c.if-not-subset.false) ∙ c.subset.ensures.value; memory = c.put.ensures.memory }
+returns c = record { value = sym c.if-not-subset.false ∙ c.subset.ensures.value; memory = c.put.ensures.memory }

@@ -1,7 +1,6 @@
 -- `claim::line::take_line` meets its contract. Assumes nothing.
 use mathlib.Core.Path.{sym}
 use Prim.Native.Nat.{◌+◌, ◌*◌}
-use borrow.Author.Tests.{not-true, not-false}
 use Rattle.text.proofs.Digits.{digits_inside}
 use Rattle.program.specs.Tables.{program_in}
 use Rattle.program.proofs.Read.{classes_limit}
@@ -24,7 +23,7 @@ returns-then-not-is_due c =
     record {
       progress = rw (c.other_number.ensures.value, other_line a.text.now a.at a.digits c.requires.0)
           (told_other (program_in a.t.now) a.k a.a a.b a.text.now a.at a.digits a.w.now
-          c.frame_of-f.result c.frame_of-f.ensures.value c.is_due.result c.is_due.ensures.value a.w.now (not-true _ c.if-not-is_due.true));
+          c.frame_of-f.result c.frame_of-f.ensures.value c.is_due.result c.is_due.ensures.value a.w.now c.if-not-is_due.true);
     }
 
 pub overflow_add-at : goal.overflow_add-at
@@ -33,7 +32,7 @@ overflow_add-at c =
     omega (
       arith,
       frame_length a.text.now a.at a.digits c.frame_of-f.result a.a a.b c.requires.1 c.is_due.result
-          c.is_due.ensures.value (not-false _ c.if-not-is_due.false),
+          c.is_due.ensures.value c.if-not-is_due.false,
       c.requires.1,
       c.well_formed,
     )
@@ -43,7 +42,7 @@ take_masks-requires c =
     let a = c.args in
     let l = rw (sym c.frame_of-f.ensures.value) at (due_limits (program_in a.t.now) a.a a.b a.k) in
     let e = frame_length a.text.now a.at a.digits c.frame_of-f.result a.a a.b c.requires.1 c.is_due.result
-    c.is_due.ensures.value (not-false _ c.if-not-is_due.false) in (
+    c.is_due.ensures.value c.if-not-is_due.false in (
       omega (arith, e, c.requires.1),
       l.2,
       digits_inside a.text.now a.at a.digits c.frame_of-f.result.head (16 * (c.frame_of-f.result.registers + 1))
@@ -56,8 +55,8 @@ returns-then-not-take_masks c =
     record {
       progress = told_refused (program_in a.t.now) a.k a.a a.b a.text.now a.at a.digits a.w.now
           c.frame_of-f.result c.frame_of-f.ensures.value c.is_due.result c.is_due.ensures.value
-          (not-false _ c.if-not-is_due.false) (classes_limit a.t.now) c.requires.1 c.take_masks.result _
-          c.take_masks.ensures.masks a.w.now (not-true _ c.if-not-take_masks.true);
+          c.if-not-is_due.false (classes_limit a.t.now) c.requires.1 c.take_masks.result _
+          c.take_masks.ensures.masks a.w.now c.if-not-take_masks.true;
     }
 
 pub returns : goal.returns
@@ -66,6 +65,6 @@ returns c =
     record {
       progress = told_taken (program_in a.t.now) a.k a.a a.b a.text.now a.at a.digits a.w.now
           c.frame_of-f.result c.frame_of-f.ensures.value c.is_due.result c.is_due.ensures.value
-          (not-false _ c.if-not-is_due.false) (classes_limit a.t.now) c.requires.1 c.take_masks.result _
-          c.take_masks.ensures.masks (not-false _ c.if-not-take_masks.false);
+          c.if-not-is_due.false (classes_limit a.t.now) c.requires.1 c.take_masks.result _
+          c.take_masks.ensures.masks c.if-not-take_masks.false;
     }

@@ -2,11 +2,10 @@
 -- into the words so far, are all masks into the words before. The measure is how many registers are left. Assumes nothing.
 use mathlib.Core.Path.{◌≡◌, sym, ap, ◌∙◌}
 use mathlib.Core.List.{[], ◌∷◌}
-use Prim.Native.Nat.{ℕ, ◌+◌, ◌*◌, ◌-◌, ◌≤◌}
+use Prim.Native.Nat.{ℕ, ◌+◌, ◌*◌}
 use native.Mathlib.Nat.{add-zero}
 use native.Mathlib.Omega.{arith}
 use lib.ListN.{set}
-use borrow.Author.Tests.{not-true, not-false}
 use Rattle.text.proofs.Digits.{digits_inside}
 use Rattle.text.proofs.AtOnce.{sixteen_digits}
 use Rattle.instruction.specs.Word.{pick}
@@ -14,8 +13,7 @@ use Rattle.mask.specs.Mask.{subset}
 use Rattle.program.specs.Lists.{tab}
 use Rattle.flow.specs.Claim.{register_at}
 use Rattle.slots.specs.Layout.{mask_of}
-use Rattle.claim.specs.Inside.{mask_in, masks_in}
-use Rattle.claim.proofs.Masks.{masks_after, masks_fail, masks_start, masks_end, masks_refused, masks_taken, masks_finished}
+use Rattle.claim.proofs.Masks.{masks_fail, masks_start, masks_end, masks_refused, masks_taken, masks_finished}
 use Rattle.claim.proofs.line.take_masks.Goals as goal
 
 pub loop-r-init : goal.loop-r-init
@@ -30,12 +28,14 @@ loop-r-init c =
     )
 
 pub returns-then-not-put_mask : goal.returns-then-not-put_mask
-returns-then-not-put_mask c s e =
-    let a = c.args in
-    let flag = c.put_mask.ensures.value ∙ ap (λ (b : ℕ). subset (mask_of b) (mask_of a.allowed)) c.loop-r.invariant.1 in
-    let none = masks_refused a.text.now a.allowed a.n (register_at a.m a.pc) a.at c.loop-r.w c.loop-r.r
-    c.loop-r-test.true c.put_mask.result flag (not-true _ c.if-not-put_mask.true) in
-    record { masks = sym (masks_fail a.text.now a.allowed (tab a.n (register_at a.m a.pc)) (s ∷ []) a.at a.w.now (c.loop-r.invariant.2 ∙ none)) }
+returns-then-not-put_mask c = record {
+  masks = λ s e.
+      let a = c.args in
+      let flag = c.put_mask.ensures.value ∙ ap (λ (b : ℕ). subset (mask_of b) (mask_of a.allowed)) c.loop-r.invariant.1 in
+      let none = masks_refused a.text.now a.allowed a.n (register_at a.m a.pc) a.at c.loop-r.w c.loop-r.r
+      c.loop-r-test.true c.put_mask.result flag c.if-not-put_mask.true in
+      sym (masks_fail a.text.now a.allowed (tab a.n (register_at a.m a.pc)) (s ∷ []) a.at a.w.now (c.loop-r.invariant.2 ∙ none));
+}
 
 pub overflow_mul-r : goal.overflow_mul-r
 overflow_mul-r c =
@@ -70,16 +70,16 @@ loop-r-preserved c =
       omega (arith, c.loop-r-test.true),
       rw next at c.mask_after-bits.ensures.value,
       c.loop-r.invariant.2 ∙ masks_taken a.text.now a.allowed a.n (register_at a.m a.pc) a.at c.loop-r.w c.loop-r.r
-          c.loop-r-test.true c.put_mask.result flag c.register_place.result _ (not-false _ c.if-not-put_mask.false) c.register_place.ensures.value words,
+          c.loop-r-test.true c.put_mask.result flag c.register_place.result _ c.if-not-put_mask.false c.register_place.ensures.value words,
     )
 
 pub returns : goal.returns
-returns c s e =
-    let a = c.args in
-    let left = c.loop-r-test.false in
-    let last : c.loop-r.r ≡ a.n = omega (arith, left) in
-    let done = c.loop-r.invariant.2 ∙ masks_end a.text.now a.allowed a.n (register_at a.m a.pc) a.at c.loop-r.w c.loop-r.r left in
-    record {
-      masks = masks_finished a.text.now a.allowed a.n (register_at a.m a.pc) a.at c.loop-r.w a.w.now s done
-          c.put_mask-2.result c.loop-r.bits a.last _ (rw last at c.loop-r.invariant.1) c.put_mask-2.ensures.value e c.put_mask-2.ensures.memory;
-    }
+returns c = record {
+  masks = λ s e.
+      let a = c.args in
+      let left = c.loop-r-test.false in
+      let last : c.loop-r.r ≡ a.n = omega (arith, left) in
+      let done = c.loop-r.invariant.2 ∙ masks_end a.text.now a.allowed a.n (register_at a.m a.pc) a.at c.loop-r.w c.loop-r.r left in
+      masks_finished a.text.now a.allowed a.n (register_at a.m a.pc) a.at c.loop-r.w a.w.now s done
+      c.put_mask-2.result c.loop-r.bits a.last _ (rw last at c.loop-r.invariant.1) c.put_mask-2.ensures.value e c.put_mask-2.ensures.memory;
+}

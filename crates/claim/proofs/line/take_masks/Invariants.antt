@@ -1,20 +1,10 @@
 -- `claim::line::take_masks`: what its loops keep, and what falls.
-use mathlib.Core.Path.{◌≡◌, sym, ap, ◌∙◌}
-use mathlib.Core.List.{[], ◌∷◌}
-use Prim.Native.Nat.{ℕ, ◌+◌, ◌*◌, ◌-◌, ◌≤◌}
-use native.Mathlib.Nat.{add-zero}
-use native.Mathlib.Omega.{arith}
-use lib.ListN.{set}
-use borrow.Author.Tests.{not-true, not-false}
-use Rattle.text.proofs.Digits.{digits_inside}
-use Rattle.text.proofs.AtOnce.{sixteen_digits}
-use Rattle.instruction.specs.Word.{pick}
-use Rattle.mask.specs.Mask.{subset}
+use mathlib.Core.Path.{◌≡◌}
+use Prim.Native.Nat.{◌+◌, ◌*◌, ◌-◌, ◌≤◌}
 use Rattle.program.specs.Lists.{tab}
 use Rattle.flow.specs.Claim.{register_at}
-use Rattle.slots.specs.Layout.{mask_of}
 use Rattle.claim.specs.Inside.{mask_in, masks_in}
-use Rattle.claim.proofs.Masks.{masks_after, masks_fail, masks_start, masks_end, masks_refused, masks_taken, masks_finished}
+use Rattle.claim.proofs.Masks.{masks_after}
 use Rattle.claim.proofs.line.take_masks.Given as goal
 
 abbrev pub invariant-loop-r : goal.invariant-loop-r

@@ -1,7 +1,6 @@
 -- `claim::walk::after_last` meets its contract. Assumes nothing.
 use mathlib.Core.Path.{sym, ◌∙◌}
 use Rattle.claim.proofs.LineKinds.{other_line, last_end, last_broken, last_whole}
-use borrow.Author.Rules.{rules}
 use Rattle.claim.proofs.walk.after_last.Goals as goal
 
 pub returns-in-End : goal.returns-in-End

@@ -12,30 +12,15 @@ pub returns-then-present : goal.returns-then-present
 returns-then-present c =
     let a = c.args in
     record {
-      place = ((
-        c.take_frame.ensures.place,
-        c.take_frame.ensures.progress ∙ sym
-            (frame_there (program_in a.t.now) a.k a.a a.b c.present.result c.present.ensures.value
-            (progress_of a.text.now a.from a.w.now) c.if-present.true),
-      )).0;
-      progress = ((
-        c.take_frame.ensures.place,
-        c.take_frame.ensures.progress ∙ sym
-            (frame_there (program_in a.t.now) a.k a.a a.b c.present.result c.present.ensures.value
-            (progress_of a.text.now a.from a.w.now) c.if-present.true),
-      )).1;
+      place = c.take_frame.ensures.place;
+      progress = c.take_frame.ensures.progress ∙ sym
+          (frame_there (program_in a.t.now) a.k a.a a.b c.present.result c.present.ensures.value
+          (progress_of a.text.now a.from a.w.now) c.if-present.true);
     }
 
 pub returns : goal.returns
 returns c = record {
-  place = (let a = c.args in (
-    c.requires,
-    sym (frame_none (program_in a.t.now) a.k a.a a.b c.present.result
-        c.present.ensures.value (progress_of a.text.now a.from a.w.now) c.if-present.false),
-  )).0;
-  progress = (let a = c.args in (
-    c.requires,
-    sym (frame_none (program_in a.t.now) a.k a.a a.b c.present.result
-        c.present.ensures.value (progress_of a.text.now a.from a.w.now) c.if-present.false),
-  )).1;
+  place = let a = c.args in c.requires;
+  progress = let a = c.args in sym (frame_none (program_in a.t.now) a.k a.a a.b c.present.result
+      c.present.ensures.value (progress_of a.text.now a.from a.w.now) c.if-present.false);
 }

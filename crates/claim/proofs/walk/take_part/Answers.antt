@@ -1,12 +1,12 @@
 -- `claim::walk::take_part` meets its contract. The loop's invariant: the frames from first number a on, taken where the walk
 -- stands, are all frames taken where it began. The measure is how many first numbers are left. Assumes nothing.
-use mathlib.Core.Path.{◌≡◌, sym, ap, ◌∙◌}
-use Prim.Native.Nat.{ℕ, ◌-◌, ◌≤◌}
+use mathlib.Core.Path.{sym, ap, ◌∙◌}
+use Prim.Native.Nat.{ℕ}
 use Rattle.program.specs.Lists.{joined}
 use Rattle.program.specs.Tables.{program_in}
 use Rattle.claim.specs.Frames.{part_due}
 use Rattle.claim.specs.ReadClaim.{take_frames}
-use Rattle.claim.specs.Inside.{Placed, progress_of}
+use Rattle.claim.specs.Inside.{progress_of}
 use Rattle.claim.proofs.FrameLists.{row_due, frames_from, frames_start, frames_next, frames_end_lem}
 use native.Mathlib.Omega.{arith}
 use Rattle.claim.proofs.walk.take_part.Goals as goal
@@ -47,20 +47,10 @@ returns c =
     let a = c.args in
     let p = program_in a.t.now in
     record {
-      place = ((
-        c.loop-a.invariant.1,
-        sym
-            (c.loop-a.invariant.2 ∙ frames_end_lem p c.outer-n.result (row_due p a.k) c.loop-a.a
-            c.loop-a-test.false (progress_of a.text.now c.loop-a.to c.loop-a.w)) ∙ ap
-            (λ (n : ℕ). take_frames p (joined n (row_due p a.k)) (progress_of a.text.now a.from a.w.now))
-            c.outer-n.ensures.value,
-      )).0;
-      progress = ((
-        c.loop-a.invariant.1,
-        sym
-            (c.loop-a.invariant.2 ∙ frames_end_lem p c.outer-n.result (row_due p a.k) c.loop-a.a
-            c.loop-a-test.false (progress_of a.text.now c.loop-a.to c.loop-a.w)) ∙ ap
-            (λ (n : ℕ). take_frames p (joined n (row_due p a.k)) (progress_of a.text.now a.from a.w.now))
-            c.outer-n.ensures.value,
-      )).1;
+      place = c.loop-a.invariant.1;
+      progress = sym
+          (c.loop-a.invariant.2 ∙ frames_end_lem p c.outer-n.result (row_due p a.k) c.loop-a.a
+          c.loop-a-test.false (progress_of a.text.now c.loop-a.to c.loop-a.w)) ∙ ap
+          (λ (n : ℕ). take_frames p (joined n (row_due p a.k)) (progress_of a.text.now a.from a.w.now))
+          c.outer-n.ensures.value;
     }

@@ -1,13 +1,11 @@
 -- `claim::walk::take_part`: what its loops keep, and what falls.
-use mathlib.Core.Path.{◌≡◌, sym, ap, ◌∙◌}
-use Prim.Native.Nat.{ℕ, ◌-◌, ◌≤◌}
+use mathlib.Core.Path.{◌≡◌}
+use Prim.Native.Nat.{◌-◌, ◌≤◌}
 use Rattle.program.specs.Lists.{joined}
 use Rattle.program.specs.Tables.{program_in}
-use Rattle.claim.specs.Frames.{part_due}
 use Rattle.claim.specs.ReadClaim.{take_frames}
 use Rattle.claim.specs.Inside.{Placed, progress_of}
-use Rattle.claim.proofs.FrameLists.{row_due, frames_from, frames_start, frames_next, frames_end_lem}
-use native.Mathlib.Omega.{arith}
+use Rattle.claim.proofs.FrameLists.{row_due, frames_from}
 use Rattle.claim.proofs.walk.take_part.Given as goal
 
 abbrev pub invariant-loop-a : goal.invariant-loop-a

@@ -1,12 +1,12 @@
 -- `claim::walk::take_row` meets its contract. The loop's invariant: the frames from number b on, taken where the walk stands,
 -- are all frames taken where it began. The measure is how many numbers are left. Assumes nothing.
-use mathlib.Core.Path.{◌≡◌, sym, ap, ◌∙◌}
-use Prim.Native.Nat.{ℕ, ◌-◌, ◌≤◌}
+use mathlib.Core.Path.{sym, ap, ◌∙◌}
+use Prim.Native.Nat.{ℕ}
 use Rattle.program.specs.Lists.{joined}
 use Rattle.program.specs.Tables.{program_in}
 use Rattle.claim.specs.Frames.{frame_at}
 use Rattle.claim.specs.ReadClaim.{take_frames}
-use Rattle.claim.specs.Inside.{Placed, progress_of}
+use Rattle.claim.specs.Inside.{progress_of}
 use Rattle.claim.proofs.FrameLists.{frames_from, frames_start, frames_next, frames_end_lem}
 use native.Mathlib.Omega.{arith}
 use Rattle.claim.proofs.walk.take_row.Goals as goal
@@ -46,20 +46,10 @@ returns c =
     let a = c.args in
     let p = program_in a.t.now in
     record {
-      place = ((
-        c.loop-b.invariant.1,
-        sym
-            (c.loop-b.invariant.2 ∙ frames_end_lem p c.inner-n.result (frame_at p a.k a.a) c.loop-b.b
-            c.loop-b-test.false (progress_of a.text.now c.loop-b.to c.loop-b.w)) ∙ ap
-            (λ (n : ℕ). take_frames p (joined n (frame_at p a.k a.a)) (progress_of a.text.now a.from a.w.now))
-            c.inner-n.ensures.value,
-      )).0;
-      progress = ((
-        c.loop-b.invariant.1,
-        sym
-            (c.loop-b.invariant.2 ∙ frames_end_lem p c.inner-n.result (frame_at p a.k a.a) c.loop-b.b
-            c.loop-b-test.false (progress_of a.text.now c.loop-b.to c.loop-b.w)) ∙ ap
-            (λ (n : ℕ). take_frames p (joined n (frame_at p a.k a.a)) (progress_of a.text.now a.from a.w.now))
-            c.inner-n.ensures.value,
-      )).1;
+      place = c.loop-b.invariant.1;
+      progress = sym
+          (c.loop-b.invariant.2 ∙ frames_end_lem p c.inner-n.result (frame_at p a.k a.a) c.loop-b.b
+          c.loop-b-test.false (progress_of a.text.now c.loop-b.to c.loop-b.w)) ∙ ap
+          (λ (n : ℕ). take_frames p (joined n (frame_at p a.k a.a)) (progress_of a.text.now a.from a.w.now))
+          c.inner-n.ensures.value;
     }

@@ -1,13 +1,12 @@
 -- `claim::walk::take_row`: what its loops keep, and what falls.
-use mathlib.Core.Path.{◌≡◌, sym, ap, ◌∙◌}
-use Prim.Native.Nat.{ℕ, ◌-◌, ◌≤◌}
+use mathlib.Core.Path.{◌≡◌}
+use Prim.Native.Nat.{◌-◌, ◌≤◌}
 use Rattle.program.specs.Lists.{joined}
 use Rattle.program.specs.Tables.{program_in}
 use Rattle.claim.specs.Frames.{frame_at}
 use Rattle.claim.specs.ReadClaim.{take_frames}
 use Rattle.claim.specs.Inside.{Placed, progress_of}
-use Rattle.claim.proofs.FrameLists.{frames_from, frames_start, frames_next, frames_end_lem}
-use native.Mathlib.Omega.{arith}
+use Rattle.claim.proofs.FrameLists.{frames_from}
 use Rattle.claim.proofs.walk.take_row.Given as goal
 
 abbrev pub invariant-loop-b : goal.invariant-loop-b

@@ -40,7 +40,7 @@ returns-then-not-goes_into c =
     let to = handler_target p a.m h in
     let no : subset c.caught-taken.result (mask_of 0)
     || (kept cl (carried p a.m a.pc to) && subset c.caught-taken.result (cl (result_at a.m to))) ≡ false =
-    rw (← c.handler_target.ensures.value) (sym c.goes_into.ensures.value ∙ not-true _ c.if-not-goes_into.true) in
+    rw (← c.handler_target.ensures.value) (sym c.goes_into.ensures.value ∙ c.if-not-goes_into.true) in
     let rest = c.common-rest.result in
     record {
       value = sym
@@ -65,7 +65,7 @@ loop-h-preserved c =
     let to = handler_target p a.m h in
     let ok : subset c.caught-taken.result (mask_of 0)
     || (kept cl (carried p a.m a.pc to) && subset c.caught-taken.result (cl (result_at a.m to))) ≡ true =
-    rw (← c.handler_target.ensures.value) (sym c.goes_into.ensures.value ∙ not-false _ c.if-not-goes_into.false) in
+    rw (← c.handler_target.ensures.value) (sym c.goes_into.ensures.value ∙ c.if-not-goes_into.false) in
     let rest = c.common-rest.result in (
       omega (arith, c.loop-h.invariant.0),
       rest_more p a.m a.pc rest h l c.loop-h.rest c.caught-taken.result so_far bits c.without-rest.result c.without-rest.ensures.bits,

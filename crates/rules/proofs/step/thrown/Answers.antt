@@ -27,7 +27,7 @@ returns c =
     let from = cl (register_at a.m a.pc a.from) in
     let bits : (k : ℕ) → has c.common-throwable.result k ≡ has from k && (ltb k (class_count p) && below p k 1) =
     λ k. below_in_lem a.t.now a.s.now c.requires c.register-mask.result c.below.result c.common-throwable.result c.common-throwable.ensures.bits 1 c.below.ensures.value k
-    ∙ ap (λ (?x : Mask). has ?x k && (ltb k (class_count p) && below p k 1)) c.register-mask.ensures.value in
+    ∙ ap (λ (x : Mask). has x k && (ltb k (class_count p) && below p k 1)) c.register-mask.ensures.value in
     let more : (k : ℕ) → has c.add-raised.result k ≡ has c.common-throwable.result k || (eqb k 2 && (ltb k 64 && has from 62)) =
     λ k. c.add-raised.ensures.bits k
     ∙ ap (λ (t : Bool). has c.common-throwable.result k || (eqb k 2 && (ltb k 64 && t)))

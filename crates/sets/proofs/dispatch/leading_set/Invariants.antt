@@ -1,16 +1,12 @@
 -- `sets::dispatch::leading_set`: what its loops keep, and what falls.
-use mathlib.Core.Path.{◌≡◌, ◌∙◌}
+use mathlib.Core.Path.{◌≡◌}
 use mathlib.Core.Bool.{◌&&◌}
-use Prim.Native.Nat.{ℕ, ◌-◌, ◌<◌}
-use native.Mathlib.Omega.{arith}
+use Prim.Native.Nat.{ℕ, ◌-◌}
 use lib.Dec.{ltb}
 use Rattle.mask.specs.Mask.{has}
 use Rattle.program.specs.Program.{class_count}
 use Rattle.program.specs.Tables.{program_in}
-use Rattle.program.proofs.Read.{classes_limit}
 use Rattle.sets.specs.Sets.{leads}
-use Rattle.sets.proofs.Adding.{start, added, finish}
-use Rattle.sets.proofs.Callees.{leads_here}
 use Rattle.sets.proofs.dispatch.leading_set.Given as goal
 
 abbrev pub invariant-loop-k : goal.invariant-loop-k

@@ -1,8 +1,7 @@
 -- `sets::dispatch::owners` meets its contract. The loop's invariant: the set has the classes of the methods before the next one that have the name and the count. Assumes nothing.
 use mathlib.Core.Path.{◌≡◌, ap, ◌∙◌}
-use Prim.Native.Nat.{ℕ, ◌-◌, ◌<◌, ◌≤◌}
+use Prim.Native.Nat.{ℕ}
 use native.Mathlib.Omega.{arith}
-use Rattle.mask.specs.Mask.{has}
 use Rattle.program.specs.Program.{method_count}
 use Rattle.program.specs.Tables.{program_in}
 use Rattle.search.specs.Search.{answers}
@@ -28,8 +27,10 @@ loop-m-preserved c =
     )
 
 pub returns : goal.returns
-returns c k l =
-    let a = c.args in
-    let p = program_in a.t.now in
-    let all : c.loop-m.m ≡ method_count p = omega (arith, c.method_count-n.ensures.value) in
-    record { bits = c.loop-m.invariant.1 k l ∙ ap (λ (m : ℕ). some m (answers p k a.name a.count)) all }
+returns c = record {
+  bits = λ k l.
+      let a = c.args in
+      let p = program_in a.t.now in
+      let all : c.loop-m.m ≡ method_count p = omega (arith, c.method_count-n.ensures.value) in
+      c.loop-m.invariant.1 k l ∙ ap (λ (m : ℕ). some m (answers p k a.name a.count)) all;
+}

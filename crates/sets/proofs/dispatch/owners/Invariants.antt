@@ -1,14 +1,10 @@
 -- `sets::dispatch::owners`: what its loops keep, and what falls.
-use mathlib.Core.Path.{◌≡◌, ap, ◌∙◌}
+use mathlib.Core.Path.{◌≡◌}
 use Prim.Native.Nat.{ℕ, ◌-◌, ◌<◌, ◌≤◌}
-use native.Mathlib.Omega.{arith}
 use Rattle.mask.specs.Mask.{has}
-use Rattle.program.specs.Program.{method_count}
 use Rattle.program.specs.Tables.{program_in}
 use Rattle.search.specs.Search.{answers}
 use Rattle.flow.specs.Flows.{some}
-use Rattle.mask.proofs.Sets.{no_bit}
-use Rattle.sets.proofs.Named.{owner_more}
 use Rattle.sets.proofs.dispatch.owners.Given as goal
 
 abbrev pub invariant-loop-m : goal.invariant-loop-m

@@ -1,6 +1,5 @@
 -- `sets::dispatch::owns` meets its contract. Assumes nothing.
 use mathlib.Core.Path.{sym, ap}
-use native.Mathlib.Omega.{arith}
 use Rattle.program.specs.Tables.{program_in}
 use Rattle.search.specs.declared.Callee.{Callee}
 use Rattle.search.specs.Search.{method_in}
