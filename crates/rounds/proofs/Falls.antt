@@ -10,7 +10,6 @@ use Rattle.program.specs.Program.{code_length}
 use Rattle.program.specs.Tables.{program_in}
 use Rattle.instruction.proofs.Flags.{pick_cases}
 use Rattle.site.specs.declared.How.{How}
-use Rattle.site.specs.declared.How.TheVariants as how
 use Rattle.shift.specs.declared.Run.{Run}
 use Rattle.shift.specs.declared.Stay.{Stay}
 use Rattle.shift.proofs.Places.{preceding_is}

@@ -43,7 +43,7 @@ use Rattle.turns.specs.Turns as turns
 use Rattle.turns.specs.Turns.{Shifting, shift_in, shift_done, make_shifting, static_shifting, virtual_shifting, leave_shifting, throw_shifting}
 use Rattle.turns.specs.Turns.{unwind_shifting, make_done, static_done, virtual_done, leave_done, throw_done, from_throw, from_exit, from_virtual}
 use Rattle.turns.specs.Turns.{applied, executed, unwind_done, new_shifting, new_done, from_raises}
-use Rattle.rounds.specs.Rounds.{method_in, address_in, turns_of}
+use Rattle.rounds.specs.Rounds.{turns_of}
 
 -- both of two tests that pass together
 pub both : (a b : Bool) → Holds (a && b) → Holds a × Holds b

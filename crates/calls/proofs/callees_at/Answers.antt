@@ -1,6 +1,5 @@
 -- `calls::callees_at` meets its contract: a virtual call, a static one, or no call. Assumes nothing.
 use mathlib.Core.Path.{sym, ap, ◌∙◌}
-use borrow.Author.Rules.{rules}
 use Rattle.mask.specs.declared.Mask.{Mask}
 use Rattle.mask.proofs.Sets.{no_bit}
 use Rattle.program.specs.Tables.{program_in}
@@ -13,23 +12,29 @@ pub led_to-requires : goal.led_to-requires
 led_to-requires c = c.requires
 
 pub returns-in-InvokeVirtual : goal.returns-in-InvokeVirtual
-returns-in-InvokeVirtual c = record { callees = λ q l.
-    let a = c.args in
-    let p = program_in a.t.now in
-    let e = sym c.instruction_at-i.ensures.value ∙ c.in-InvokeVirtual.is in
-    c.led_to.ensures.callees q
-          ∙ ap (λ (k : Mask). leads_to p k c.in-InvokeVirtual.name c.in-InvokeVirtual.count q) c.register-mask.ensures.value
-          ∙ sym (virtual_called p (claim_in a.w.now) a.m a.pc q _ _ _ e) }
+returns-in-InvokeVirtual c = record {
+  callees = λ q l.
+      let a = c.args in
+      let p = program_in a.t.now in
+      let e = sym c.instruction_at-i.ensures.value ∙ c.in-InvokeVirtual.is in
+      c.led_to.ensures.callees q
+      ∙ ap (λ (k : Mask). leads_to p k c.in-InvokeVirtual.name c.in-InvokeVirtual.count q) c.register-mask.ensures.value
+      ∙ sym (virtual_called p (claim_in a.w.now) a.m a.pc q _ _ _ e);
+}
 
 pub returns-in-InvokeStatic : goal.returns-in-InvokeStatic
-returns-in-InvokeStatic c = record { callees = λ q l.
-    let a = c.args in
-    let p = program_in a.t.now in
-    let e = sym c.instruction_at-i.ensures.value ∙ c.in-InvokeStatic.is in
-    one_bit _ _ q c.with.ensures.bits l ∙ sym (static_called p (claim_in a.w.now) a.m a.pc q _ _ _ e) }
+returns-in-InvokeStatic c = record {
+  callees = λ q l.
+      let a = c.args in
+      let p = program_in a.t.now in
+      let e = sym c.instruction_at-i.ensures.value ∙ c.in-InvokeStatic.is in
+      one_bit _ _ q c.with.ensures.bits l ∙ sym (static_called p (claim_in a.w.now) a.m a.pc q _ _ _ e);
+}
 
 pub returns-in_default : goal.returns-in_default
-returns-in_default c = record { callees = λ q l.
-    let a = c.args in
-    let p = program_in a.t.now in
-    no_bit q ∙ sym (other_called p (claim_in a.w.now) a.m a.pc q _ (sym c.instruction_at-i.ensures.value) (c.in_default.not-InvokeVirtual, c.in_default.not-InvokeStatic)) }
+returns-in_default c = record {
+  callees = λ q l.
+      let a = c.args in
+      let p = program_in a.t.now in
+      no_bit q ∙ sym (other_called p (claim_in a.w.now) a.m a.pc q _ (sym c.instruction_at-i.ensures.value) (c.in_default.not-InvokeVirtual, c.in_default.not-InvokeStatic));
+}

@@ -1,12 +1,10 @@
 -- `calls::led_to` meets its contract. The loop's invariant: the set has the callees before the next method. Assumes nothing.
-use mathlib.Core.Path.{◌≡◌, ◌∙◌}
-use mathlib.Core.Bool.{◌&&◌}
-use Prim.Native.Nat.{ℕ, ◌-◌, ◌≤◌, ◌<◌}
+use mathlib.Core.Path.{◌∙◌}
+use Prim.Native.Nat.{◌≤◌, ◌<◌}
 use native.Mathlib.Omega.{arith}
 use lib.Dec.{ltb}
 use borrow.Author.Tests.{lt-ltb}
 use Rattle.text.proofs.Cases.{by_test}
-use Rattle.mask.specs.Mask.{has}
 use Rattle.mask.proofs.Laws.{and_false}
 use Rattle.program.specs.Program.{method_count}
 use Rattle.program.specs.Tables.{program_in}
@@ -38,12 +36,14 @@ loop-q-preserved c =
     )
 
 pub returns : goal.returns
-returns c = record { callees = λ q.
-    let a = c.args in
-    let p = program_in a.t.now in
-    c.loop-q.invariant.1 q
-          ∙ by_test (leads_to p a.mask a.name a.count q)
-          (λ t.
-          let l : q < method_count p = leads_few p a.mask a.name a.count q t in
-          rw (t, lt-ltb q c.loop-q.q (omega (arith, c.method_count-n.ensures.value))))
-          (λ t. rw t (and_false (ltb q c.loop-q.q))) }
+returns c = record {
+  callees = λ q.
+      let a = c.args in
+      let p = program_in a.t.now in
+      c.loop-q.invariant.1 q
+      ∙ by_test (leads_to p a.mask a.name a.count q)
+      (λ t.
+      let l : q < method_count p = leads_few p a.mask a.name a.count q t in
+      rw (t, lt-ltb q c.loop-q.q (omega (arith, c.method_count-n.ensures.value))))
+      (λ t. rw t (and_false (ltb q c.loop-q.q)));
+}

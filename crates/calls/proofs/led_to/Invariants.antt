@@ -1,19 +1,11 @@
 -- `calls::led_to`: what its loops keep, and what falls.
-use mathlib.Core.Path.{◌≡◌, ◌∙◌}
+use mathlib.Core.Path.{◌≡◌}
 use mathlib.Core.Bool.{◌&&◌}
-use Prim.Native.Nat.{ℕ, ◌-◌, ◌≤◌, ◌<◌}
-use native.Mathlib.Omega.{arith}
+use Prim.Native.Nat.{ℕ, ◌-◌, ◌≤◌}
 use lib.Dec.{ltb}
-use borrow.Author.Tests.{lt-ltb}
-use Rattle.text.proofs.Cases.{by_test}
 use Rattle.mask.specs.Mask.{has}
-use Rattle.mask.proofs.Laws.{and_false}
-use Rattle.program.specs.Program.{method_count}
 use Rattle.program.specs.Tables.{program_in}
-use Rattle.program.proofs.Read.{methods_limit}
 use Rattle.sets.specs.Sets.{leads_to}
-use Rattle.sets.proofs.Adding.{start, added}
-use Rattle.sets.proofs.Receivers.{leads_few}
 use Rattle.calls.proofs.led_to.Given as goal
 
 abbrev pub invariant-loop-q : goal.invariant-loop-q

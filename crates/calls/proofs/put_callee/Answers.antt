@@ -1,7 +1,6 @@
 -- `calls::put_callee` meets its contract: one call or none. Assumes nothing.
 use mathlib.Core.Path.{◌≡◌, sym, ◌∙◌}
 use mathlib.Core.Bool.{true, false}
-use native.Mathlib.Omega.{arith}
 use Rattle.mask.specs.Mask.{has}
 use Rattle.calls.proofs.Writing.{written_none, written_one}
 use Rattle.calls.proofs.put_callee.Goals as goal

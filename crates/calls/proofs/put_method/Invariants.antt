@@ -1,16 +1,9 @@
 -- `calls::put_method`: what its loops keep, and what falls.
-use mathlib.Core.Path.{◌≡◌, ap, ◌∙◌}
-use Prim.Native.Nat.{zero, suc, ◌-◌, ◌≤◌}
-use native.Mathlib.Omega.{arith}
-use lib.ListN.{length}
-use Rattle.program.specs.Program.{code_length}
+use Prim.Native.Nat.{◌-◌, ◌≤◌}
 use Rattle.program.specs.Lists.{joined}
 use Rattle.program.specs.Tables.{program_in}
-use Rattle.program.proofs.Read.{methods_limit, in_code}
 use Rattle.slots.specs.Layout.{claim_in}
 use Rattle.calls.specs.Inside.{address_calls, Written}
-use Rattle.calls.proofs.Joined.{addresses_short}
-use Rattle.calls.proofs.Writing.{length_put, written_none, written_more}
 use Rattle.calls.proofs.put_method.Given as goal
 
 abbrev pub invariant-loop-left : goal.invariant-loop-left

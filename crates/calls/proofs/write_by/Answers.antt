@@ -1,12 +1,11 @@
 -- `calls::write_by` meets its contract. The loop's invariant: the calls of the methods before m are written. The measure is how many
 -- methods are left. Assumes nothing.
 use mathlib.Core.Path.{◌≡◌, ap, ◌∙◌}
-use Prim.Native.Nat.{◌-◌, ◌≤◌}
+use Prim.Native.Nat.{◌≤◌}
 use native.Mathlib.Numerals.{add-one}
 use native.Mathlib.Omega.{arith}
 use lib.ListN.{length}
 use Rattle.program.specs.Program.{method_count}
-use Rattle.program.specs.Lists.{joined}
 use Rattle.program.specs.Tables.{program_in}
 use Rattle.flow.specs.Calls.{call_list}
 use Rattle.slots.specs.Layout.{claim_in}

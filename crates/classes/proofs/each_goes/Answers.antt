@@ -2,16 +2,15 @@
 -- a test of each class in a set, by the test of each class up to 59
 use mathlib.Core.Path.{◌≡◌, sym, ◌∙◌}
 use mathlib.Core.Bool.{Bool, true, false, not, ◌||◌}
-use Prim.Native.Nat.{ℕ, ◌≤◌, ◌<◌, ◌-◌}
+use Prim.Native.Nat.{ℕ, ◌<◌}
 use native.Mathlib.Omega.{arith}
 use borrow.Author.Count.{below_more}
-use borrow.Author.Tests.{not-true, not-false}
 use Rattle.mask.specs.declared.Mask.{Mask}
 use Rattle.mask.specs.Mask.{has}
 use Rattle.mask.proofs.Laws.{every_all, every_not}
 use Rattle.flow.specs.Claim.{field_of}
 use Rattle.slots.specs.Layout.{claim_in}
-use Rattle.classes.specs.Fields.{each_of, flows, flows_of}
+use Rattle.classes.specs.Fields.{each_of, flows}
 use Rattle.classes.proofs.each_goes.Goals as goal
 
 module _ (set : Mask) (test : ℕ → Bool) where

@@ -1,5 +1,5 @@
 -- The turns that are made and those that are still to be made come to all of them.
-use Rattle.std.proofs.Common.{◌≡◌, ℕ}
+use Rattle.std.proofs.Common.{◌≡◌}
 use Rattle.drive.specs.Models.{lent, looped}
 use Rattle.rounds.specs.Rounds.{runs, round_done, run_done, turns_of}
 use Rattle.rounds.proofs.run.Given as goal

@@ -1,5 +1,5 @@
 -- What is done and what is still to be done in the frame come to all of it.
-use Rattle.std.proofs.Common.{◌≡◌, ℕ}
+use Rattle.std.proofs.Common.{◌≡◌}
 use Rattle.drive.specs.Models.{lent, looped}
 use Rattle.rounds.specs.Rounds.{goes, one_done, stay_done}
 use Rattle.rounds.proofs.stay.Given as goal
