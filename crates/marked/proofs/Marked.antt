@@ -91,6 +91,7 @@ passed_holds (stops panel n number frames address) e =
     (eqb-true (stepping_number x) number h.0, eqb-true (open_frames x) frames k.0, eqb-true (bottom_address x) address k.1)
 
 each_holds : (rs : List Row) → all_pass rs ≡ true → (r : Row) → Memᴰ r rs → Holds r
+each_holds [] e r m = elim m [ ]
 each_holds (x ∷ xs) e r (Memᴰ.head p) = subst⁻¹ Holds p (passed_holds x (both_true (passes x) (all_pass xs) e).0)
 each_holds (x ∷ xs) e r (Memᴰ.tail m) = each_holds xs (both_true (passes x) (all_pass xs) e).1 r m
 

@@ -1,9 +1,6 @@
 -- `capi::hudzmoke_read` meets its contract. Assumes nothing.
 -- word 1 is the line, 0 where there is none
-use mathlib.Core.Path.{◌≡◌, refl, ap, ◌∙◌}
-use mathlib.Core.List.{List, [], ◌∷◌}
-use Prim.Native.Nat.{ℕ}
-use borrow.Author.Rules.{rules}
+use Rattle.std.proofs.Common.{◌≡◌, refl, ap, ◌∙◌, List, [], ◌∷◌, ℕ}
 use Rattle.answer.specs.Words.{verdict_answered}
 use Rattle.reader.specs.declared.Answer.{Answer}
 use Rattle.reader.specs.declared.Answer.TheVariants.{Read, TooLong, BadLine, BadFrame, OutOfOrder, BadValue, FallsThrough}
@@ -33,13 +30,10 @@ returns c =
     let p = c.put_reading.ensures in
     let line = c.line_of.ensures.value in
     let number = c.number_of.ensures.value in
+    let read = c.fill-read.ensures.answer in
+    let start = c.args in
     record {
-      number = (let start = c.args in (
-        p.0 ∙ number ∙ c.fill-read.ensures.answer.0,
-        p.1 ∙ words_are _ _ c.fill-read.result (read_program start.text.now) start.answer.now number line c.fill-read.ensures.answer.0 c.fill-read.ensures.answer.1,
-      )).0;
-      answer = (let start = c.args in (
-        p.0 ∙ number ∙ c.fill-read.ensures.answer.0,
-        p.1 ∙ words_are _ _ c.fill-read.result (read_program start.text.now) start.answer.now number line c.fill-read.ensures.answer.0 c.fill-read.ensures.answer.1,
-      )).1;
+      number = p.number ∙ number ∙ read.0;
+      answer = p.memory
+          ∙ words_are _ _ c.fill-read.result (read_program start.text.now) start.answer.now number line read.0 read.1;
     }

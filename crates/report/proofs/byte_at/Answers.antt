@@ -5,8 +5,5 @@ use lib.ListN.{get_or-eq_default}
 use borrow.Author.Rules.{rules}
 use Rattle.report.proofs.byte_at.Goals as goal
 
-pub overflow_cast-result : goal.overflow_cast-result
-overflow_cast-result c = omega (arith, c.shared_slice_known-1.given c.args.i)
-
 pub returns-else-i-memory : goal.returns-else-i-memory
 returns-else-i-memory c = record { value = sym (get_or-eq_default c.args.memory.now 0 c.if-i-memory.false) }

@@ -6,9 +6,6 @@ use Rattle.words.proofs.Entries.{byte_past}
 use borrow.Author.Rules.{rules}
 use Rattle.words.proofs.byte_from.Goals as goal
 
-pub overflow_cast-result : goal.overflow_cast-result
-overflow_cast-result c = omega (arith, c.shared_slice_known-1.given (c.args.at + c.args.more))
-
 pub returns-then-more-table : goal.returns-then-more-table
 returns-then-more-table c = record { value = rw get_or-drop }
 

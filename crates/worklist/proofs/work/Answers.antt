@@ -15,7 +15,11 @@ pub turn-m-requires : goal.turn-m-requires
 turn-m-requires c = c.requires
 
 pub returns-then-m-gt15 : goal.returns-then-m-gt15
-returns-then-m-gt15 c formed = record { upward = upward_then _ _ _ _ (c.loop-left.invariant formed) (c.turn-m.ensures.upward formed) }
+returns-then-m-gt15 c =
+    record {
+      upward = λ formed.
+          upward_then _ _ _ _ (c.loop-left.invariant formed) (c.turn-m.ensures.upward formed);
+    }
 
 pub loop-left-preserved : goal.loop-left-preserved
 loop-left-preserved c = λ formed.

@@ -1,7 +1,6 @@
 -- `response::written::of_panel` meets its contract. Assumes nothing.
-use mathlib.Core.Path.{sym, ◌∙◌}
+use Rattle.std.proofs.Common.{sym, ◌∙◌}
 use Rattle.response.proofs.Panels.{text_responded, refusal_responded, short_responded}
-use borrow.Author.Rules.{rules}
 use Rattle.response.proofs.written.of_panel.Goals as goal
 
 pub returns-in-Written : goal.returns-in-Written
@@ -9,19 +8,15 @@ returns-in-Written c =
     let start = c.args in
     let w = c.write_claim.ensures in
     let is = c.in-Written.is in
+    let there =
+    text_responded start.panel.now start.table.now start.out.now start.line.now _ _ (sym is ∙ w.answer) w.memory (w.least _ is) in
     record {
-      count = (text_responded start.panel.now start.table.now start.out.now start.line.now _ _ (sym is ∙ w.0) w.1.1.0
-          (w.1.1.1 _ is)).0;
-      bytes = (text_responded start.panel.now start.table.now start.out.now start.line.now _ _ (sym is ∙ w.0) w.1.1.0
-          (w.1.1.1 _ is)).1.0;
-      whole = (text_responded start.panel.now start.table.now start.out.now start.line.now _ _ (sym is ∙ w.0) w.1.1.0
-          (w.1.1.1 _ is)).1.1.0;
-      words = (text_responded start.panel.now start.table.now start.out.now start.line.now _ _ (sym is ∙ w.0) w.1.1.0
-          (w.1.1.1 _ is)).1.1.1.0;
-      all_words = (text_responded start.panel.now start.table.now start.out.now start.line.now _ _ (sym is ∙ w.0) w.1.1.0
-          (w.1.1.1 _ is)).1.1.1.1.0;
-      least = (text_responded start.panel.now start.table.now start.out.now start.line.now _ _ (sym is ∙ w.0) w.1.1.0
-          (w.1.1.1 _ is)).1.1.1.1.1;
+      count = there.0;
+      bytes = there.1.0;
+      whole = there.1.1.0;
+      words = there.1.1.1.0;
+      all_words = there.1.1.1.1.0;
+      least = there.1.1.1.1.1;
     }
 
 pub returns-in-Refused : goal.returns-in-Refused
@@ -30,19 +25,16 @@ returns-in-Refused c =
     let w = c.write_claim.ensures in
     let is = c.in-Refused.is in
     let r = c.refuse.ensures in
+    let there =
+    refusal_responded start.panel.now start.table.now start.out.now start.line.now _ _ _ (sym is ∙ w.answer) w.memory _ _ _ _
+    (r.count, (r.bytes, r.words)) in
     record {
-      count = (refusal_responded start.panel.now start.table.now start.out.now start.line.now _ _ _ (sym is ∙ w.0) w.1.1.0
-          _ _ _ _ r).0;
-      bytes = (refusal_responded start.panel.now start.table.now start.out.now start.line.now _ _ _ (sym is ∙ w.0) w.1.1.0
-          _ _ _ _ r).1.0;
-      whole = (refusal_responded start.panel.now start.table.now start.out.now start.line.now _ _ _ (sym is ∙ w.0) w.1.1.0
-          _ _ _ _ r).1.1.0;
-      words = (refusal_responded start.panel.now start.table.now start.out.now start.line.now _ _ _ (sym is ∙ w.0) w.1.1.0
-          _ _ _ _ r).1.1.1.0;
-      all_words = (refusal_responded start.panel.now start.table.now start.out.now start.line.now _ _ _ (sym is ∙ w.0) w.1.1.0
-          _ _ _ _ r).1.1.1.1.0;
-      least = (refusal_responded start.panel.now start.table.now start.out.now start.line.now _ _ _ (sym is ∙ w.0) w.1.1.0
-          _ _ _ _ r).1.1.1.1.1;
+      count = there.0;
+      bytes = there.1.0;
+      whole = there.1.1.0;
+      words = there.1.1.1.0;
+      all_words = there.1.1.1.1.0;
+      least = there.1.1.1.1.1;
     }
 
 pub returns-in-Short : goal.returns-in-Short
@@ -51,4 +43,14 @@ returns-in-Short c =
     let w = c.write_claim.ensures in
     let is = c.in-Short.is in
     let r = c.refuse-in-Short.ensures in
-    record { count = (short_responded start.panel.now start.table.now start.out.now start.line.now _ (sym is ∙ w.0) w.1.1.0 _ _ _ _ r).0; bytes = (short_responded start.panel.now start.table.now start.out.now start.line.now _ (sym is ∙ w.0) w.1.1.0 _ _ _ _ r).1.0; whole = (short_responded start.panel.now start.table.now start.out.now start.line.now _ (sym is ∙ w.0) w.1.1.0 _ _ _ _ r).1.1.0; words = (short_responded start.panel.now start.table.now start.out.now start.line.now _ (sym is ∙ w.0) w.1.1.0 _ _ _ _ r).1.1.1.0; all_words = (short_responded start.panel.now start.table.now start.out.now start.line.now _ (sym is ∙ w.0) w.1.1.0 _ _ _ _ r).1.1.1.1.0; least = (short_responded start.panel.now start.table.now start.out.now start.line.now _ (sym is ∙ w.0) w.1.1.0 _ _ _ _ r).1.1.1.1.1 }
+    let there =
+    short_responded start.panel.now start.table.now start.out.now start.line.now _ (sym is ∙ w.answer) w.memory _ _ _ _
+    (r.count, (r.bytes, r.words)) in
+    record {
+      count = there.0;
+      bytes = there.1.0;
+      whole = there.1.1.0;
+      words = there.1.1.1.0;
+      all_words = there.1.1.1.1.0;
+      least = there.1.1.1.1.1;
+    }

@@ -39,13 +39,8 @@ pub returns : goal.returns
 returns c =
     let x = c.args in
     let p = program_in x.t.now in
+    let all : c.loop-a.a ≡ outer p x.k = omega (arith, c.outer-n.ensures.value) in
     record {
-      value = (let all : c.loop-a.a ≡ outer p x.k = omega (arith, c.outer-n.ensures.value) in (
-        λ cl. c.loop-a.invariant.2 cl ∙ part_rows cl p x.k c.loop-a.a all,
-        omega (arith, c.loop-a.invariant.1, all, outer_few x.t.now x.k),
-      )).0;
-      range = (let all : c.loop-a.a ≡ outer p x.k = omega (arith, c.outer-n.ensures.value) in (
-        λ cl. c.loop-a.invariant.2 cl ∙ part_rows cl p x.k c.loop-a.a all,
-        omega (arith, c.loop-a.invariant.1, all, outer_few x.t.now x.k),
-      )).1;
+      value = λ cl. c.loop-a.invariant.2 cl ∙ part_rows cl p x.k c.loop-a.a all;
+      range = omega (arith, c.loop-a.invariant.1, all, outer_few x.t.now x.k);
     }

@@ -40,13 +40,8 @@ pub returns : goal.returns
 returns c =
     let a = c.args in
     let p = program_in a.t.now in
+    let all : c.loop-b.b ≡ inner p a.k a.a = omega (arith, c.inner-n.ensures.value) in
     record {
-      value = (let all : c.loop-b.b ≡ inner p a.k a.a = omega (arith, c.inner-n.ensures.value) in (
-        λ cl. c.loop-b.invariant.2 cl ∙ ap (λ (n : ℕ). length (frames_text cl (joined n (frame_at p a.k a.a)))) all,
-        omega (arith, c.loop-b.invariant.1, all, inner_few a.t.now a.k a.a),
-      )).0;
-      range = (let all : c.loop-b.b ≡ inner p a.k a.a = omega (arith, c.inner-n.ensures.value) in (
-        λ cl. c.loop-b.invariant.2 cl ∙ ap (λ (n : ℕ). length (frames_text cl (joined n (frame_at p a.k a.a)))) all,
-        omega (arith, c.loop-b.invariant.1, all, inner_few a.t.now a.k a.a),
-      )).1;
+      value = λ cl. c.loop-b.invariant.2 cl ∙ ap (λ (n : ℕ). length (frames_text cl (joined n (frame_at p a.k a.a)))) all;
+      range = omega (arith, c.loop-b.invariant.1, all, inner_few a.t.now a.k a.a);
     }

@@ -1,9 +1,0 @@
--- `compare_cases::show_file`: what its loops keep, and what falls.
-use Rattle.std.proofs.Common.{rules}
-use Rattle.compare_cases.proofs.show_file.Given as goal
-
-abbrev pub invariant-loop-left : goal.invariant-loop-left
-invariant-loop-left l = Unit {0}
-
-abbrev pub decreases-loop-left : goal.decreases-loop-left
-decreases-loop-left l = l.left
