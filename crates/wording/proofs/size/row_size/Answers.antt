@@ -2,12 +2,11 @@
 -- are at most 4,103 bytes each. Assumes nothing.
 use mathlib.Core.Path.{◌≡◌, ap, ◌∙◌}
 use mathlib.Core.List.{List}
-use Prim.Native.Nat.{ℕ, ◌-◌, ◌*◌, ◌≤◌}
+use Prim.Native.Nat.{ℕ}
 use native.Mathlib.Omega.{arith}
 use lib.ListN.{length}
 use Rattle.program.specs.Lists.{joined}
 use Rattle.program.specs.Tables.{program_in}
-use Rattle.flow.specs.Claim.{Claim}
 use Rattle.claim.specs.Frames.{Due, inner, frame_at}
 use Rattle.wording.specs.ClaimText.{frames_text}
 use Rattle.wording.proofs.Lengths.{size_more, inner_few}
