@@ -1,5 +1,5 @@
 -- How the stepper begins on a text, and what it answers in the end. Definitions only.
-use Rattle.std.specs.Prelude.{Bool, ◌&&◌, ℕ, ◌-◌, min, eqb, leb}
+use Rattle.std.specs.Prelude.{ℕ, ◌-◌, min, eqb}
 use Rattle.instruction.specs.Word.{pick}
 use Rattle.reader.specs.Read.{Reading, refused, taken}
 use Rattle.turn.specs.declared.Halt.{Halt}

@@ -1,6 +1,6 @@
 -- What the functions over lent values read and write. Nothing here needs to be believed to read a promise of the stepper.
 -- Definitions only.
-use Rattle.std.specs.Prelude.{ℕ, zero, suc, ◌-◌, ltb, pos}
+use Rattle.std.specs.Prelude.{ℕ, zero, suc, ltb, pos}
 use Rattle.instruction.specs.Word.{pick}
 use Rattle.machine.specs.declared.Value as machine
 use Rattle.machine.specs.declared.Value.TheVariants.{Number, Reference}

@@ -1,12 +1,10 @@
 -- Numbers that a caller of the checker sees: 34 is that of acceptance alone, since refusals are numbered up to 13. Assumes nothing.
-use mathlib.Core.Path.{◌≡◌, refl, sym, ap, ◌∙◌}
+use mathlib.Core.Path.{◌≡◌}
 use mathlib.Core.List.{List, [], ◌∷◌}
 use Prim.Native.Nat.{ℕ, ◌≤◌}
 use native.Mathlib.Omega.{arith}
 use lib.Dec.{ltb}
-use Rattle.text.proofs.Cases.{never}
 use Rattle.instruction.proofs.Flags.{pick_cases}
-use Rattle.verdict.specs.declared.Verdict.{Verdict as Answer}
 use Rattle.verdict.specs.declared.Verdict.TheVariants.{Accepted}
 use Rattle.verdict.specs.Numbers.{number_of, values_of}
 use Rattle.program.specs.Program.{Program}
@@ -17,7 +15,7 @@ use Rattle.flow.specs.Verdict.{Verdict, accepted, violated, verdict}
 use Rattle.slots.specs.Layout.{claim_in}
 use Rattle.claim.specs.ReadClaim.{Reading as ClaimReading, refused as claim_refused, taken as claim_taken, read_claim}
 use Rattle.claim.proofs.Numbers.{Numbered as ClaimNumbered, numbered as claim-numbered}
-use Rattle.checker.specs.Check.{Checking, turned_down, short, broken, kept, decided, judged, with_claim, with_program, checking, answer_for, checking_number, checking_values}
+use Rattle.checker.specs.Check.{Checking, turned_down, short, broken, kept, decided, with_claim, with_program, checking, answer_for, checking_number, checking_values}
 
 -- refusals are numbered up to 13
 abbrev Numbered : Checking → Type 0

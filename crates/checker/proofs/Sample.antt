@@ -1,7 +1,7 @@
 -- What the clauses of `check` say at document 01's sample with too little memory, and with a claim text for each refusal 9 to 13. Its
 -- verdicts stand in crates/marked. Assumes nothing.
 use mathlib.Core.Path.{◌≡◌, refl, ap, ◌∙◌}
-use mathlib.Core.List.{List, [], ◌∷◌}
+use mathlib.Core.List.{List, []}
 use Prim.Native.Nat.{ℕ, ◌<◌}
 use Prim.Native.String.{◌++◌}
 use lib.ListN.{length}

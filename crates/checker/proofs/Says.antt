@@ -37,23 +37,23 @@ module _ (program claim : List ℕ) (list : List Made) (p : Program) (masks : Li
 
   pub each_register : (i r : ℕ) → i < length (run p n).frames → r < registers p (frame i).method
       → LiesIn (run p n).objects (register (frame i) r) (claim_in masks (register_at (frame i).method (frame i).address r))
-  each_register = flow.each-register p n (claim_in masks) list same_run
+  each_register = flow.each_register p n (claim_in masks) list same_run
 
   pub each_result : (i : ℕ) → i < length (run p n).frames
       → LiesIn (run p n).objects (frame i).result (claim_in masks (result_at (frame i).method (frame i).address))
-  each_result = flow.each-result p n (claim_in masks) list same_run
+  each_result = flow.each_result p n (claim_in masks) list same_run
 
   pub each_field : (o x : ℕ) → o < length (run p n).objects → has_field p (object_at (run p n) o).class x ≡ true
       → LiesIn (run p n).objects (cell (run p n) o x) (claim_in masks (field_of (object_at (run p n) o).class x))
-  each_field = flow.each-field p n (claim_in masks) list same_run
+  each_field = flow.each_field p n (claim_in masks) list same_run
 
   pub each_static : (x : ℕ) → x < p.statics → LiesIn (run p n).objects (static (run p n) x) (claim_in masks (static_of x))
-  each_static = flow.each-static p n (claim_in masks) list same_run
+  each_static = flow.each_static p n (claim_in masks) list same_run
 
   pub each_call : (i : ℕ) (none : Made) → i < length (calls p n) → Memᴰ (get_or (calls p n) i none) list
-  each_call = flow.each-call p n (claim_in masks) list same_run
+  each_call = flow.each_call p n (claim_in masks) list same_run
 
   pub each_leaving : (i : ℕ) (none : Left) → i < length (leavings p n)
       → LiesIn (run p n).objects (Reference (get_or (leavings p n) i none).object)
       (claim_in masks (leaving (get_or (leavings p n) i none).method))
-  each_leaving = flow.each-leaving p n (claim_in masks) list same_run
+  each_leaving = flow.each_leaving p n (claim_in masks) list same_run

@@ -1,12 +1,11 @@
 -- Turns of a loop: where a number falls with each turn, so many turns are enough. Assumes nothing.
-use mathlib.Core.Path.{◌≡◌, refl, sym, ap, ◌∙◌}
+use mathlib.Core.Path.{◌≡◌, refl, sym, ◌∙◌}
 use mathlib.Core.Bool.{Bool, true, false, not}
 use mathlib.Core.List.{List}
 use Prim.Native.Nat.{ℕ, zero, suc, ◌<◌, ◌≤◌}
-use native.Mathlib.Nat.{not-suc-le-zero, le_of_suc-le-suc}
+use native.Mathlib.Nat.{not-suc-le-zero}
 use native.Mathlib.Omega.{arith}
 use lib.Dec.{T as Holds}
-use lib.ListN.{length}
 use Rattle.instruction.specs.Word.{pick}
 use Rattle.drive.proofs.Driver.{Same}
 use Rattle.drive.specs.Models.{Lent, Done, done, looped}

@@ -30,7 +30,7 @@ register_in m pc r l = rw (lt-ltb r 16 l)
 pub at_most_16 : (n x y : ℕ) → n ≡ min (min x 16) y → n ≤ 16
 at_most_16 n x y e = omega arith
 
-pub registers_from : (m pc n i : ℕ) → i ≡ row_of m pc → n ≤ 16 → Consecutive (register_at m pc) i n
+pub registers_from_lem : (m pc n i : ℕ) → i ≡ row_of m pc → n ≤ 16 → Consecutive (register_at m pc) i n
 registers_from_lem m pc n i e few r l = rw e (register_in m pc r (omega arith))
 
 register_past : (m pc r : ℕ) → claim_size ≤ row_of m pc → claim_size ≤ place_of (register_at m pc r)

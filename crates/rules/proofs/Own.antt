@@ -7,7 +7,7 @@ use lib.Dec.{eqb, ltb}
 use borrow.Author.Tests.{lt-ltb, ltb-true, eq-eqb, eqb-true}
 use Rattle.instruction.specs.declared.Operation.{Operation}
 use Rattle.instruction.specs.declared.Instruction.{Instruction}
-use Rattle.instruction.specs.declared.Instruction.TheVariants.{Binop, InvokeVirtual, Throw, CheckCast}
+use Rattle.instruction.specs.declared.Instruction.TheVariants.{Binop, CheckCast}
 use Rattle.instruction.specs.Word.{pick}
 use Rattle.instruction.proofs.Flags.{both_true, or_right, if_use, if_true}
 use Rattle.mask.specs.declared.Mask.{Mask}

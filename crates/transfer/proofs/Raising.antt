@@ -1,6 +1,6 @@
 -- What an instruction raises itself as rules 9 and 10 ask it, and these rules beside the others of the instruction. Assumes nothing.
 use mathlib.Core.Path.{◌≡◌, sym, ◌∙◌}
-use mathlib.Core.Bool.{Bool, true, not, ◌&&◌}
+use mathlib.Core.Bool.{Bool, true, ◌&&◌}
 use Prim.Native.Nat.{ℕ}
 use native.Mathlib.Omega.{arith}
 use Rattle.instruction.specs.declared.Operation.{Operation}
@@ -8,7 +8,6 @@ use Rattle.instruction.proofs.Flags.{both_true}
 use Rattle.arithmetic.specs.Arithmetic.{divides}
 use Rattle.mask.specs.Mask.{has, zero_bit}
 use Rattle.program.specs.Program.{Program, null_class, arithmetic_class, cast_class}
-use Rattle.search.specs.Search.{below}
 use Rattle.flow.specs.Claim.{register_at, Claim}
 use Rattle.flow.specs.Flows.{Flows, ◌&◌, Holds}
 use Rattle.flow.specs.Rules.{own, null_in, zero_divisor, failed_cast, into_handler, into_leaving}

@@ -1,6 +1,5 @@
 -- `checker::check` meets its contract. Assumes nothing.
 use mathlib.Core.Path.{ap}
-use borrow.Author.Rules.{rules}
 use Rattle.verdict.specs.Numbers.{number_of, values_of}
 use Rattle.checker.proofs.Kept.{accepted_covered}
 use Rattle.checker.proofs.check.Goals as goal

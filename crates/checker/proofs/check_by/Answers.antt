@@ -1,5 +1,4 @@
 -- `checker::check_by` meets its contract. Assumes nothing.
-use borrow.Author.Rules.{rules}
 use native.Mathlib.Omega.{arith}
 use Rattle.checker.proofs.Answers.{refused_checked, claimed_checked}
 use Rattle.checker.proofs.check_by.Goals as goal

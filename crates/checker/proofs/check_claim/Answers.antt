@@ -1,5 +1,4 @@
 -- `checker::check_claim` meets its contract. Assumes nothing.
-use borrow.Author.Rules.{rules}
 use native.Mathlib.Omega.{arith}
 use Rattle.program.specs.Tables.{program_in}
 use Rattle.checker.proofs.Answers.{refused_claimed, judged_claimed}

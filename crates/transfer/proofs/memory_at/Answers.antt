@@ -9,23 +9,28 @@ use Rattle.order.proofs.Raising.{raised_when, left_when}
 use Rattle.transfer.proofs.memory_at.Goals as goal
 
 pub returns-then-pc-eq0 : goal.returns-then-pc-eq0
-returns-then-pc-eq0 c formed =
-    let a = c.args in
+returns-then-pc-eq0 c =
     record {
-      raised = raised_when _ (initial_memory (program_in a.t.now)) _ _
+      raised = λ formed.
+          let a = c.args in
+          raised_when _ (initial_memory (program_in a.t.now)) _ _
           (rw (eq-eqb a.m 0 c.if-m-eq0.true, eq-eqb a.pc 0 c.if-pc-eq0.true))
           (c.initial_memory.ensures.raised formed);
     }
 
 pub returns-else-pc-eq0 : goal.returns-else-pc-eq0
-returns-else-pc-eq0 c formed =
-    let a = c.args in
+returns-else-pc-eq0 c =
     record {
-      raised = left_when _ (initial_memory (program_in a.t.now)) (claim_in a.w.now)
+      raised = λ formed.
+          let a = c.args in
+          left_when _ (initial_memory (program_in a.t.now)) (claim_in a.w.now)
           (rw (ne_eqb a.pc 0 c.if-pc-eq0.false) (and_false (eqb a.m 0)));
     }
 
 pub returns-else-m-eq0 : goal.returns-else-m-eq0
-returns-else-m-eq0 c formed =
-    let a = c.args in
-    record { raised = left_when _ (initial_memory (program_in a.t.now)) (claim_in a.w.now) (rw (ne_eqb a.m 0 c.if-m-eq0.false)) }
+returns-else-m-eq0 c =
+    record {
+      raised = λ formed.
+          let a = c.args in
+          left_when _ (initial_memory (program_in a.t.now)) (claim_in a.w.now) (rw (ne_eqb a.m 0 c.if-m-eq0.false));
+    }

@@ -12,15 +12,16 @@ use Rattle.order.proofs.Raising.{raised_both}
 use Rattle.transfer.proofs.raise_at.Goals as goal
 
 pub returns-then-pc-lt32 : goal.returns-then-pc-lt32
-returns-then-pc-lt32 c made formed lm lp =
-    let a = c.args in
-    let p = program_in a.t.now in
-    let f = formed.methods a.m lm in
-    let zero = when (eqb a.m 0 && eqb a.pc 0) (initial_memory p) in
-    let one = when (eqb a.pc 0) (entry p a.m) in
-    let rest = all_of (rules_of p a.m a.pc (instruction_at p a.m a.pc)) in
+returns-then-pc-lt32 c =
     record {
-      raised = raised_both zero (one & rest) _ _ _ (c.memory_at.ensures.raised formed)
+      raised = λ made formed lm lp.
+          let a = c.args in
+          let p = program_in a.t.now in
+          let f = formed.methods a.m lm in
+          let zero = when (eqb a.m 0 && eqb a.pc 0) (initial_memory p) in
+          let one = when (eqb a.pc 0) (entry p a.m) in
+          let rest = all_of (rules_of p a.m a.pc (instruction_at p a.m a.pc)) in
+          raised_both zero (one & rest) _ _ _ (c.memory_at.ensures.raised formed)
           (raised_both one rest _ _ _ (c.entry_at.ensures.raised formed lm)
           ((rw c.instruction_at-i.ensures.value at (c.of_instruction.ensures.raised made))
           (record {
@@ -33,4 +34,8 @@ returns-then-pc-lt32 c made formed lm lp =
     }
 
 pub returns : goal.returns
-returns c made formed lm lp = record { raised = absurd (omega (arith, formed.limited.code c.args.m)) }
+returns c =
+    record {
+      raised = λ made formed lm lp.
+          absurd (omega (arith, formed.limited.code c.args.m));
+    }

@@ -1,20 +1,14 @@
 -- `worklist::fill_by`: what its loops keep, and what falls.
-use mathlib.Core.Path.{◌≡◌, ◌∙◌}
+use mathlib.Core.Path.{◌≡◌}
 use Prim.Native.Nat.{◌<◌}
-use native.Mathlib.Omega.{arith}
-use borrow.Author.Tests.{eq-eqb, ne_eqb}
 use Rattle.program.specs.Tables.{program_in}
 use Rattle.reader.specs.Formed.{Formed}
 use Rattle.flow.specs.Claim.{Claim}
-use Rattle.flow.specs.Verdict.{accepted, violated, verdict}
-use Rattle.flow.proofs.Verdicts.{violated_first}
+use Rattle.flow.specs.Verdict.{accepted, verdict}
 use Rattle.slots.specs.Layout.{claim_in, no_masks}
-use Rattle.rules.specs.Broken.{no_rule, broken_of}
-use Rattle.rules.proofs.Numbers.{verdict_said}
+use Rattle.rules.specs.Broken.{broken_of}
 use Rattle.order.specs.Order.{Below}
 use Rattle.fixpoint.specs.Risen.{room}
-use Rattle.fixpoint.proofs.Room.{room_most}
-use Rattle.fixpoint.proofs.Rises.{none_below, risen_less}
 use Rattle.worklist.proofs.fill_by.Given as goal
 
 abbrev pub invariant-loop-left : goal.invariant-loop-left

@@ -7,8 +7,11 @@ pub work-requires : goal.work-requires
 work-requires c = c.requires
 
 pub returns : goal.returns
-returns c formed lm lp =
-    let a = c.args in
-    let p = program_in a.t.now in
-    let risen = raised_risen p a.m a.pc _ _ lm lp (c.raise_at.ensures.raised c.requires formed lm lp) in
-    record { risen = risen_then p a.m a.pc _ _ _ risen (c.work.ensures.upward formed) }
+returns c =
+    record {
+      risen = λ formed lm lp.
+          let a = c.args in
+          let p = program_in a.t.now in
+          let risen = raised_risen p a.m a.pc _ _ lm lp (c.raise_at.ensures.raised c.requires formed lm lp) in
+          risen_then p a.m a.pc _ _ _ risen (c.work.ensures.upward formed);
+    }

@@ -1,10 +1,5 @@
 -- `worklist::work` meets its contract. The loop's invariant: the claim has risen, and is below every accepted claim that it was below.
 -- The measure: how many turns are left. Assumes nothing.
-use native.Mathlib.Omega.{arith}
-use Rattle.program.specs.Tables.{program_in}
-use Rattle.reader.specs.Formed.{Formed}
-use Rattle.slots.specs.Layout.{claim_in}
-use Rattle.fixpoint.specs.Risen.{Upward}
 use Rattle.fixpoint.proofs.Rises.{upward_same, upward_then}
 use Rattle.worklist.proofs.work.Goals as goal
 
@@ -15,7 +10,11 @@ pub turn-m-requires : goal.turn-m-requires
 turn-m-requires c = c.requires
 
 pub returns-then-m-gt15 : goal.returns-then-m-gt15
-returns-then-m-gt15 c formed = record { upward = upward_then _ _ _ _ (c.loop-left.invariant formed) (c.turn-m.ensures.upward formed) }
+returns-then-m-gt15 c =
+    record {
+      upward = λ formed.
+          upward_then _ _ _ _ (c.loop-left.invariant formed) (c.turn-m.ensures.upward formed);
+    }
 
 pub loop-left-preserved : goal.loop-left-preserved
 loop-left-preserved c = λ formed.

@@ -1,10 +1,8 @@
 -- `worklist::work`: what its loops keep, and what falls.
-use native.Mathlib.Omega.{arith}
 use Rattle.program.specs.Tables.{program_in}
 use Rattle.reader.specs.Formed.{Formed}
 use Rattle.slots.specs.Layout.{claim_in}
 use Rattle.fixpoint.specs.Risen.{Upward}
-use Rattle.fixpoint.proofs.Rises.{upward_same, upward_then}
 use Rattle.worklist.proofs.work.Given as goal
 
 abbrev pub invariant-loop-left : goal.invariant-loop-left

@@ -8,29 +8,23 @@ pub returns-then-number-ne0 : goal.returns-then-number-ne0
 returns-then-number-ne0 c =
     let a = c.args in
     let number = c.number_of-number.ensures.value in
-    record {
-      answer = (rw (number, c.line_of.ensures.value)
-          (refused_answered a.program.now a.memory.now c.fill-read.result c.fill-read.ensures.answer.0 c.fill-read.ensures.answer.1
-          (λ z. omega (arith, number)))).0;
-      memory = (rw (number, c.line_of.ensures.value)
-          (refused_answered a.program.now a.memory.now c.fill-read.result c.fill-read.ensures.answer.0 c.fill-read.ensures.answer.1
-          (λ z. omega (arith, number)))).1;
-    }
+    let answer = c.fill-read.ensures.answer in
+    let done = refused_answered a.program.now a.memory.now c.fill-read.result answer.0 answer.1 (λ z. omega (arith, number)) in
+    record { answer = rw (number, c.line_of.ensures.value) done.0; memory = done.1 }
 
 pub write_tables-requires : goal.write_tables-requires
 write_tables-requires c =
-    let a = ?before in
+    let a = c.args in
     let number = c.number_of-number.ensures.value in
-    tables_formed a.program.now a.memory.now c.fill-read.result c.fill-read.ensures.answer.0 c.fill-read.ensures.answer.1
-    (omega (arith, number)) _ _ c.fill-read.ensures.memory
+    let answer = c.fill-read.ensures.answer in
+    tables_formed a.program.now a.memory.now c.fill-read.result answer.0 answer.1 (omega (arith, number)) _ _ c.fill-read.ensures.memory
 
 pub returns : goal.returns
 returns c =
-    let a = ?before in
+    let a = c.args in
     let number = c.number_of-number.ensures.value in
-    record {
-      answer = (taken_answered a.program.now a.memory.now c.fill-read.result c.fill-read.ensures.answer.0 c.fill-read.ensures.answer.1
-          (omega (arith, number)) _ _ c.fill-read.ensures.memory _ _ c.write_tables.ensures).0;
-      memory = (taken_answered a.program.now a.memory.now c.fill-read.result c.fill-read.ensures.answer.0 c.fill-read.ensures.answer.1
-          (omega (arith, number)) _ _ c.fill-read.ensures.memory _ _ c.write_tables.ensures).1;
-    }
+    let answer = c.fill-read.ensures.answer in
+    let tables = c.write_tables.ensures in
+    let done = taken_answered a.program.now a.memory.now c.fill-read.result answer.0 answer.1
+        (omega (arith, number)) _ _ c.fill-read.ensures.memory _ _ (tables.answer, tables.memory) in
+    record { answer = done.0; memory = done.1 }

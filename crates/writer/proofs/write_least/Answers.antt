@@ -7,8 +7,8 @@ use Rattle.writer.proofs.write_least.Goals as goal
 
 pub returns : goal.returns
 returns c =
-    let start = ?before in
+    let start = c in
     let p = program_in start.args.t.now in
     let least = c.fill.ensures.least start.requires.0 start.requires.1 in
-    let text = text_is p start.requires.0 _ c.fits2.ensures least in
+    let text = text_is p start.requires.0 _ c.fits.ensures.fits least in
     record { memory = (whole (put_as c.put_claim.ensures.put text) start.requires.2).1 }

@@ -12,7 +12,8 @@ use Rattle.writer.proofs.write_tables.Goals as goal
 pub returns-then-memory-n : goal.returns-then-memory-n
 returns-then-memory-n c =
     let p = program_in c.args.t.now in
-    record { answer = (short_done p c.args.memory.now (omega (arith, c.claim_size-n.ensures.value (claim_in (least_words p))))).0; memory = (short_done p c.args.memory.now (omega (arith, c.claim_size-n.ensures.value (claim_in (least_words p))))).1 }
+    let done = short_done p c.args.memory.now (omega (arith, c.claim_size-n.ensures.value (claim_in (least_words p)))) in
+    record { answer = done.0; memory = done.1 }
 
 pub write_least-requires : goal.write_least-requires
 write_least-requires c =
@@ -24,4 +25,5 @@ returns c =
     let a = c.args in
     let p = program_in a.t.now in
     let size = c.claim_size-n.ensures.value (claim_in (least_words p)) in
-    record { answer = (written_done p a.memory.now (omega (arith, size)) _ size _ c.write_least.ensures.memory).0; memory = (written_done p a.memory.now (omega (arith, size)) _ size _ c.write_least.ensures.memory).1 }
+    let done = written_done p a.memory.now (omega (arith, size)) _ size _ c.write_least.ensures.memory in
+    record { answer = done.0; memory = done.1 }

@@ -1,17 +1,15 @@
 -- `raise::exceptions::by_handler` meets its contract. The loop's invariant: the rest is what the handlers from number h on do not catch,
 -- and rule 9 is met for what they do. The measure is h. Assumes nothing.
 use mathlib.Core.Path.{◌≡◌}
-use Prim.Native.Nat.{◌+◌, ◌-◌, ◌≤◌, ◌<◌}
+use Prim.Native.Nat.{◌+◌, ◌-◌, ◌<◌}
 use native.Mathlib.Omega.{arith}
-use Rattle.program.specs.Program.{method_count, handler_count}
+use Rattle.program.specs.Program.{handler_count}
 use Rattle.program.specs.Tables.{program_in}
-use Rattle.reader.specs.Formed.{Formed}
 use Rattle.flow.specs.Claim.{leaving}
 use Rattle.slots.specs.Layout.{claim_in}
-use Rattle.sets.specs.Sets.{sets_of}
-use Rattle.sets.proofs.Handlers.{all_classes, only_classes, Rest, rest_start, rest_more}
+use Rattle.sets.proofs.Handlers.{all_classes, only_classes, rest_start, rest_more}
 use Rattle.raise.proofs.Places.{own_inside}
-use Rattle.raise.proofs.ByHandler.{Partial, partial_start, partial_more, partial_end, for_mask}
+use Rattle.raise.proofs.ByHandler.{partial_start, partial_more, partial_end, for_mask}
 use Rattle.raise.proofs.exceptions.by_handler.Goals as goal
 
 pub loop-h-init : goal.loop-h-init
@@ -49,13 +47,14 @@ loop-h-preserved c =
     )
 
 pub returns : goal.returns
-returns c made formed lm =
-    let a = c.args in
-    let p = program_in a.t.now in
-    let all : c.loop-h.h ≡ 0 = omega arith in
-    let (left, partly) = rw all at (c.loop-h.invariant.1 made) in
+returns c =
     record {
-      raised = for_mask p a.m a.pc a.mask c.common-rest.result c.classes.result c.common-rest.ensures.bits
+      raised = λ made formed lm.
+          let a = c.args in
+          let p = program_in a.t.now in
+          let all : c.loop-h.h ≡ 0 = omega arith in
+          let (left, partly) = rw all at (c.loop-h.invariant.1 made) in
+          for_mask p a.m a.pc a.mask c.common-rest.result c.classes.result c.common-rest.ensures.bits
           (all_classes a.t.now a.s.now c.classes.result c.classes.ensures.value made)
           _ _
           (partial_end p a.m a.pc c.common-rest.result c.loop-h.rest left _ _ _ (partly formed lm)

@@ -1,16 +1,13 @@
 -- `raise::exceptions::by_handler`: what its loops keep, and what falls.
 use mathlib.Core.Path.{◌≡◌}
-use Prim.Native.Nat.{◌+◌, ◌-◌, ◌≤◌, ◌<◌}
-use native.Mathlib.Omega.{arith}
+use Prim.Native.Nat.{◌≤◌, ◌<◌}
 use Rattle.program.specs.Program.{method_count, handler_count}
 use Rattle.program.specs.Tables.{program_in}
 use Rattle.reader.specs.Formed.{Formed}
-use Rattle.flow.specs.Claim.{leaving}
 use Rattle.slots.specs.Layout.{claim_in}
 use Rattle.sets.specs.Sets.{sets_of}
-use Rattle.sets.proofs.Handlers.{all_classes, only_classes, Rest, rest_start, rest_more}
-use Rattle.raise.proofs.Places.{own_inside}
-use Rattle.raise.proofs.ByHandler.{Partial, partial_start, partial_more, partial_end, for_mask}
+use Rattle.sets.proofs.Handlers.{Rest}
+use Rattle.raise.proofs.ByHandler.{Partial}
 use Rattle.raise.proofs.exceptions.by_handler.Given as goal
 
 abbrev pub invariant-loop-h : goal.invariant-loop-h

@@ -6,9 +6,12 @@ use Rattle.raise.proofs.AtOnce.{none_raised}
 use Rattle.raise.proofs.exceptions.raised.Goals as goal
 
 pub returns-then-subset : goal.returns-then-subset
-returns-then-subset c made formed lm =
-    let a = c.args in
-    record { raised = none_raised (program_in a.t.now) a.m a.pc a.mask (claim_in a.w.now) (sym c.subset.ensures.value ∙ c.if-subset.true) }
+returns-then-subset c =
+    record {
+      raised = λ made formed lm.
+          let a = c.args in
+          none_raised (program_in a.t.now) a.m a.pc a.mask (claim_in a.w.now) (sym c.subset.ensures.value ∙ c.if-subset.true);
+    }
 
 pub returns : goal.returns
 returns c = record { raised = c.by_handler.ensures.raised }

@@ -8,18 +8,20 @@ use Rattle.raise.proofs.AtOnce.{taken_none, taken_some}
 use Rattle.raise.proofs.exceptions.take_into.Goals as goal
 
 pub returns-then-subset : goal.returns-then-subset
-returns-then-subset c formed lm lp =
-    let a = c.args in
+returns-then-subset c =
     record {
-      raised = taken_none (program_in a.t.now) a.m a.pc a.to a.mask (claim_in a.w.now)
+      raised = λ formed lm lp.
+          let a = c.args in
+          taken_none (program_in a.t.now) a.m a.pc a.to a.mask (claim_in a.w.now)
           (sym c.subset.ensures.value ∙ c.if-subset.true);
     }
 
 pub returns : goal.returns
-returns c formed lm lp =
-    let a = c.args in
-    let p = program_in a.t.now in
+returns c =
     record {
-      raised = taken_some p a.m a.pc a.to a.mask _ _ _ (sym c.subset.ensures.value ∙ c.if-subset.false) (c.carry-new.ensures.raised formed lm lp)
+      raised = λ formed lm lp.
+          let a = c.args in
+          let p = program_in a.t.now in
+          taken_some p a.m a.pc a.to a.mask _ _ _ (sym c.subset.ensures.value ∙ c.if-subset.false) (c.carry-new.ensures.raised formed lm lp)
           (c.join_result.ensures.joined (own_inside p formed (result_at a.m a.to) (lm, lp)));
     }

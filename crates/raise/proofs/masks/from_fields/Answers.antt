@@ -1,10 +1,9 @@
 -- `raise::masks::from_fields` meets its contract. The loop's invariant: the mask holds what the field holds of the classes before the
 -- next. Assumes nothing.
 use mathlib.Core.Path.{◌≡◌, sym, ap, ◌∙◌}
-use Prim.Native.Nat.{ℕ, ◌-◌, ◌≤◌}
+use Prim.Native.Nat.{ℕ}
 use native.Mathlib.Numerals.{add-one}
 use native.Mathlib.Omega.{arith}
-use Rattle.mask.specs.Mask.{has}
 use Rattle.mask.proofs.Sets.{no_bit}
 use Rattle.flow.specs.Flows.{some}
 use Rattle.sets.proofs.Named.{some_more}

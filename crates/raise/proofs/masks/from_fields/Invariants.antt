@@ -1,12 +1,8 @@
 -- `raise::masks::from_fields`: what its loops keep, and what falls.
-use mathlib.Core.Path.{◌≡◌, sym, ap, ◌∙◌}
+use mathlib.Core.Path.{◌≡◌}
 use Prim.Native.Nat.{ℕ, ◌-◌, ◌≤◌}
-use native.Mathlib.Numerals.{add-one}
-use native.Mathlib.Omega.{arith}
 use Rattle.mask.specs.Mask.{has}
-use Rattle.mask.proofs.Sets.{no_bit}
 use Rattle.flow.specs.Flows.{some}
-use Rattle.sets.proofs.Named.{some_more}
 use Rattle.slots.specs.Layout.{claim_in}
 use Rattle.raise.specs.Inside.{field_has}
 use Rattle.raise.proofs.masks.from_fields.Given as goal

@@ -8,13 +8,19 @@ use Rattle.raise.proofs.AtOnce.{raised_mask}
 use Rattle.raise.proofs.masks.into_field.Goals as goal
 
 pub returns-then-has : goal.returns-then-has
-returns-then-has c inside =
-    let a = c.args in
-    let there = field_of a.k a.x in
-    let own = sym c.has.ensures.value ∙ c.if-has.true in
-    record { raised = raised_when _ (mask_into a.value there) _ _ own (raised_mask a.value there _ _ (c.join_field.ensures.joined (inside own))) }
+returns-then-has c =
+    record {
+      raised = λ inside.
+          let a = c.args in
+          let there = field_of a.k a.x in
+          let own = sym c.has.ensures.value ∙ c.if-has.true in
+          raised_when _ (mask_into a.value there) _ _ own (raised_mask a.value there _ _ (c.join_field.ensures.joined (inside own)));
+    }
 
 pub returns : goal.returns
-returns c inside =
-    let a = c.args in
-    record { raised = left_when _ (mask_into a.value (field_of a.k a.x)) (claim_in a.w.now) (sym c.has.ensures.value ∙ c.if-has.false) }
+returns c =
+    record {
+      raised = λ inside.
+          let a = c.args in
+          left_when _ (mask_into a.value (field_of a.k a.x)) (claim_in a.w.now) (sym c.has.ensures.value ∙ c.if-has.false);
+    }

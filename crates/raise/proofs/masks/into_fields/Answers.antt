@@ -1,15 +1,9 @@
 -- `raise::masks::into_fields` meets its contract. The loop's invariant: the mask is joined into the field of the classes before the next.
 -- Assumes nothing.
 use mathlib.Core.Path.{◌≡◌}
-use mathlib.Core.Bool.{true}
-use Prim.Native.Nat.{ℕ, ◌-◌, ◌≤◌, ◌<◌}
 use native.Mathlib.Numerals.{add-one}
 use native.Mathlib.Omega.{arith}
-use Rattle.mask.specs.Mask.{has}
-use Rattle.flow.specs.Claim.{field_of}
-use Rattle.flow.specs.Flows.{each}
-use Rattle.slots.specs.Layout.{place_of, claim_size, claim_in}
-use Rattle.order.specs.Raised.{Raised}
+use Rattle.slots.specs.Layout.{claim_in}
 use Rattle.order.proofs.Raising.{raised_none, raised_more}
 use Rattle.raise.specs.Inside.{into_field}
 use Rattle.raise.proofs.masks.into_fields.Goals as goal
@@ -28,6 +22,9 @@ loop-k-preserved c =
     )
 
 pub returns : goal.returns
-returns c inside =
-    let all : c.loop-k.k ≡ 60 = omega arith in
-    record { raised = rw all at (c.loop-k.invariant.1 inside) }
+returns c =
+    record {
+      raised = λ inside.
+          let all : c.loop-k.k ≡ 60 = omega arith in
+          rw all at (c.loop-k.invariant.1 inside);
+    }

@@ -2,14 +2,11 @@
 use mathlib.Core.Path.{◌≡◌}
 use mathlib.Core.Bool.{true}
 use Prim.Native.Nat.{ℕ, ◌-◌, ◌≤◌, ◌<◌}
-use native.Mathlib.Numerals.{add-one}
-use native.Mathlib.Omega.{arith}
 use Rattle.mask.specs.Mask.{has}
 use Rattle.flow.specs.Claim.{field_of}
 use Rattle.flow.specs.Flows.{each}
 use Rattle.slots.specs.Layout.{place_of, claim_size, claim_in}
 use Rattle.order.specs.Raised.{Raised}
-use Rattle.order.proofs.Raising.{raised_none, raised_more}
 use Rattle.raise.specs.Inside.{into_field}
 use Rattle.raise.proofs.masks.into_fields.Given as goal
 

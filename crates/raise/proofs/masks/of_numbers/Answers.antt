@@ -6,8 +6,8 @@ use Rattle.raise.proofs.MaskBits.{no_numbers}
 use Rattle.raise.proofs.masks.of_numbers.Goals as goal
 
 pub returns-then-has_number-2 : goal.returns-then-has_number-2
-returns-then-has_number-2 c k = record {
-  bits = c.both_numbers.ensures.bits k
+returns-then-has_number-2 c = record {
+  bits = λ k. c.both_numbers.ensures.bits k
       ∙ rw (sym c.has_number.ensures.value, c.if-has_number.true, sym c.has_number-then-has_number.ensures.value, c.if-has_number-2.true);
 }
 

@@ -3,4 +3,8 @@ use Rattle.raise.proofs.MaskBits.{one_bit}
 use Rattle.raise.proofs.masks.one.Goals as goal
 
 pub returns : goal.returns
-returns c l = record { bits = one_bit c.with.result c.args.bit l c.with.ensures.bits }
+returns c =
+    record {
+      bits = λ l.
+          one_bit c.with.result c.args.bit l c.with.ensures.bits;
+    }

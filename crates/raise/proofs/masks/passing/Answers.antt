@@ -12,17 +12,18 @@ use Rattle.raise.proofs.MaskBits.{passing_bits}
 use Rattle.raise.proofs.masks.passing.Goals as goal
 
 pub returns : goal.returns
-returns c made k =
-    let a = c.args in
-    let p = program_in a.t.now in
-    let classes : has c.common-classes.result k ≡ has a.mask k && (ltb k (class_count p) && below p k a.class) =
-    below_in_lem a.t.now a.s.now made a.mask c.below.result c.common-classes.result c.common-classes.ensures.bits
-    a.class
-    c.below.ensures.value
-    k in
-    let zero : has c.common.result k ≡ has a.mask k && eqb k zero_bit =
-    c.common.ensures.bits k ∙ ap (◌&&◌ (has a.mask k)) (c.one.ensures.bits (omega arith) k) in
+returns c =
     record {
-      bits = c.join.ensures.bits k
+      bits = λ made k.
+          let a = c.args in
+          let p = program_in a.t.now in
+          let classes : has c.common-classes.result k ≡ has a.mask k && (ltb k (class_count p) && below p k a.class) =
+          below_in_lem a.t.now a.s.now made a.mask c.below.result c.common-classes.result c.common-classes.ensures.bits
+          a.class
+          c.below.ensures.value
+          k in
+          let zero : has c.common.result k ≡ has a.mask k && eqb k zero_bit =
+          c.common.ensures.bits k ∙ ap (◌&&◌ (has a.mask k)) (c.one.ensures.bits (omega arith) k) in
+          c.join.ensures.bits k
           ∙ rw (classes, zero) (passing_bits (has a.mask k) (ltb k (class_count p) && below p k a.class) (eqb k zero_bit));
     }

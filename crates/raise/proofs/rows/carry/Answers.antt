@@ -28,24 +28,25 @@ join_words-requires c =
     (c.join_words-arg-1.given.0.1, omega (arith, here), omega (arith, there))
 
 pub returns : goal.returns
-returns c formed lm lp =
-    let a = c.args in
-    let p = program_in a.t.now in
-    let m = a.m in
-    let n = c.at_most.result in
-    let count : n ≡ min (min (registers p m) 16) (min (claim_size - row_of m a.pc) (claim_size - row_of m a.to)) =
-    c.at_most.ensures.value
-    ∙ rw (
-      c.at_most-n.ensures.value,
-      c.registers.ensures.value,
-      c.at_most-room.ensures.value,
-      c.row-from.ensures.value,
-      c.row-into.ensures.value,
-    ) in
-    let few = at_most_16 n _ _ count in
-    let here = registers_from_lem m a.pc n _ c.row-from.ensures.value few in
-    let there = registers_from_lem m a.to n _ c.row-into.ensures.value few in
+returns c =
     record {
-      raised = row_carried p formed m a.pc a.to a.w.now _ lm lp c.join_words-arg-1.given.0.1 n count
+      raised = λ formed lm lp.
+          let a = c.args in
+          let p = program_in a.t.now in
+          let m = a.m in
+          let n = c.at_most.result in
+          let count : n ≡ min (min (registers p m) 16) (min (claim_size - row_of m a.pc) (claim_size - row_of m a.to)) =
+          c.at_most.ensures.value
+          ∙ rw (
+            c.at_most-n.ensures.value,
+            c.registers.ensures.value,
+            c.at_most-room.ensures.value,
+            c.row-from.ensures.value,
+            c.row-into.ensures.value,
+          ) in
+          let few = at_most_16 n _ _ count in
+          let here = registers_from_lem m a.pc n _ c.row-from.ensures.value few in
+          let there = registers_from_lem m a.to n _ c.row-into.ensures.value few in
+          row_carried p formed m a.pc a.to a.w.now _ lm lp c.join_words-arg-1.given.0.1 n count
           (c.join_words.ensures.raised (register_at m a.pc) (register_at m a.to) here there);
     }

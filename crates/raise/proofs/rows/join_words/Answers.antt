@@ -1,16 +1,13 @@
 -- `raise::rows::join_words` meets its contract. The loop's invariant: the claim is raised by the flows of the words before the next one.
 -- Assumes nothing.
 use mathlib.Core.Path.{◌≡◌, sym, ◌∙◌}
-use Prim.Native.Nat.{ℕ, ◌+◌, ◌-◌, ◌≤◌}
+use Prim.Native.Nat.{◌+◌}
 use native.Mathlib.Numerals.{add-one}
 use native.Mathlib.Omega.{arith}
-use lib.ListN.{length, length-set}
-use Rattle.flow.specs.Claim.{Slot}
-use Rattle.flow.specs.Flows.{each}
-use Rattle.slots.specs.Layout.{claim_size, mask_at, claim_in}
-use Rattle.order.specs.Raised.{Raised}
+use lib.ListN.{length-set}
+use Rattle.slots.specs.Layout.{mask_at, claim_in}
 use Rattle.order.proofs.Raising.{raised_none, raised_more, raised_into}
-use Rattle.raise.specs.Inside.{Consecutive, each_into}
+use Rattle.raise.specs.Inside.{each_into}
 use Rattle.raise.proofs.Places.{claim_at, joined_at}
 use Rattle.raise.proofs.rows.join_words.Goals as goal
 
@@ -39,6 +36,9 @@ pub shape_of-w : goal.shape_of-w
 shape_of-w c = c.loop-r.invariant.1 ∙ sym c.requires.0
 
 pub returns : goal.returns
-returns c s t fs ft =
-    let all : c.loop-r.r ≡ c.args.n = omega arith in
-    record { raised = rw all at (c.loop-r.invariant.2 s t fs ft) }
+returns c =
+    record {
+      raised = λ s t fs ft.
+          let all : c.loop-r.r ≡ c.args.n = omega arith in
+          rw all at (c.loop-r.invariant.2 s t fs ft);
+    }

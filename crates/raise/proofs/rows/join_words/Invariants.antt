@@ -1,16 +1,12 @@
 -- `raise::rows::join_words`: what its loops keep, and what falls.
-use mathlib.Core.Path.{◌≡◌, sym, ◌∙◌}
-use Prim.Native.Nat.{ℕ, ◌+◌, ◌-◌, ◌≤◌}
-use native.Mathlib.Numerals.{add-one}
-use native.Mathlib.Omega.{arith}
-use lib.ListN.{length, length-set}
+use mathlib.Core.Path.{◌≡◌}
+use Prim.Native.Nat.{ℕ, ◌-◌, ◌≤◌}
+use lib.ListN.{length}
 use Rattle.flow.specs.Claim.{Slot}
 use Rattle.flow.specs.Flows.{each}
-use Rattle.slots.specs.Layout.{claim_size, mask_at, claim_in}
+use Rattle.slots.specs.Layout.{claim_size, claim_in}
 use Rattle.order.specs.Raised.{Raised}
-use Rattle.order.proofs.Raising.{raised_none, raised_more, raised_into}
 use Rattle.raise.specs.Inside.{Consecutive, each_into}
-use Rattle.raise.proofs.Places.{claim_at, joined_at}
 use Rattle.raise.proofs.rows.join_words.Given as goal
 
 abbrev pub invariant-loop-r : goal.invariant-loop-r

@@ -8,13 +8,14 @@ use Rattle.raise.proofs.Places.{own_inside}
 use Rattle.raise.proofs.rows.onward.Goals as goal
 
 pub returns : goal.returns
-returns c formed lm lp =
-    let a = ?before in
-    let p = program_in a.t.now in
-    let here = result_at a.m a.pc in
-    let there = result_at a.m a.to in
+returns c =
     record {
-      raised = raised_both (carried p a.m a.pc a.to) (here ⊆ there) _ _ _
+      raised = λ formed lm lp.
+          let a = c.args in
+          let p = program_in a.t.now in
+          let here = result_at a.m a.pc in
+          let there = result_at a.m a.to in
+          raised_both (carried p a.m a.pc a.to) (here ⊆ there) _ _ _
           (c.carry-new.ensures.raised formed lm lp)
           (raised_into here there _ _ (rw c.result-mask.ensures.value at (c.join_result.ensures.joined (own_inside p formed there (lm, lp)))));
     }

@@ -1,17 +1,16 @@
 -- `raise::rows::pass_arguments` meets its contract. The loop's invariant: the arguments from the first asked to the one before the next
 -- are passed. Assumes nothing.
 use mathlib.Core.Path.{◌≡◌, ap}
-use Prim.Native.Nat.{ℕ, ◌+◌, ◌-◌, ◌≤◌, ◌<◌}
+use Prim.Native.Nat.{ℕ, ◌+◌, ◌-◌, ◌<◌}
 use native.Mathlib.Numerals.{add-one}
 use native.Mathlib.Omega.{arith}
 use Rattle.program.specs.Program.{registers}
 use Rattle.program.specs.Tables.{program_in}
 use Rattle.flow.specs.Claim.{register_at}
-use Rattle.flow.specs.Flows.{Flows, each}
+use Rattle.flow.specs.Flows.{Flows}
 use Rattle.flow.specs.Rules.{argument_into, parameter}
 use Rattle.slots.specs.Layout.{claim_in}
 use Rattle.order.proofs.Raising.{raised_none, raised_more, raised_into}
-use Rattle.raise.specs.Raises.{Calling}
 use Rattle.raise.proofs.Places.{own_inside}
 use Rattle.raise.proofs.rows.pass_arguments.Goals as goal
 
@@ -24,7 +23,7 @@ loop-i-init c =
 
 pub loop-i-preserved : goal.loop-i-preserved
 loop-i-preserved c =
-    let a = ?before in
+    let a = c.args in
     let p = program_in a.t.now in
     let q = a.q in
     let i = c.loop-i.i in
@@ -48,13 +47,19 @@ loop-i-preserved c =
     )
 
 pub returns-then-q-lt16 : goal.returns-then-q-lt16
-returns-then-q-lt16 c formed lq same =
-    let a = c.args in
-    let all : c.loop-i.i - a.from ≡ a.count - a.from = omega arith in
-    record { raised = rw all at (c.loop-i.invariant.2 formed lq same) }
+returns-then-q-lt16 c =
+    record {
+      raised = λ formed lq same.
+          let a = c.args in
+          let all : c.loop-i.i - a.from ≡ a.count - a.from = omega arith in
+          rw all at (c.loop-i.invariant.2 formed lq same);
+    }
 
 pub returns-else-q-lt16 : goal.returns-else-q-lt16
-returns-else-q-lt16 c formed lq same =
-    let a = c.args in
-    let all : c.loop-i.i - a.from ≡ a.count - a.from = omega arith in
-    record { raised = rw all at (c.loop-i.invariant.2 formed lq same) }
+returns-else-q-lt16 c =
+    record {
+      raised = λ formed lq same.
+          let a = c.args in
+          let all : c.loop-i.i - a.from ≡ a.count - a.from = omega arith in
+          rw all at (c.loop-i.invariant.2 formed lq same);
+    }

@@ -1,17 +1,10 @@
 -- `raise::rows::pass_arguments`: what its loops keep, and what falls.
-use mathlib.Core.Path.{◌≡◌, ap}
-use Prim.Native.Nat.{ℕ, ◌+◌, ◌-◌, ◌≤◌, ◌<◌}
-use native.Mathlib.Numerals.{add-one}
-use native.Mathlib.Omega.{arith}
-use Rattle.program.specs.Program.{registers}
+use Prim.Native.Nat.{◌+◌, ◌-◌, ◌≤◌}
 use Rattle.program.specs.Tables.{program_in}
-use Rattle.flow.specs.Claim.{register_at}
-use Rattle.flow.specs.Flows.{Flows, each}
-use Rattle.flow.specs.Rules.{argument_into, parameter}
+use Rattle.flow.specs.Flows.{each}
+use Rattle.flow.specs.Rules.{argument_into}
 use Rattle.slots.specs.Layout.{claim_in}
-use Rattle.order.proofs.Raising.{raised_none, raised_more, raised_into}
 use Rattle.raise.specs.Raises.{Calling}
-use Rattle.raise.proofs.Places.{own_inside}
 use Rattle.raise.proofs.rows.pass_arguments.Given as goal
 
 abbrev pub invariant-loop-i : goal.invariant-loop-i

@@ -1,16 +1,12 @@
 -- `raise::start::all_fields` meets its contract. The loop's invariant: the fields of the classes before the next have zero's bit.
 -- Assumes nothing.
 use mathlib.Core.Path.{◌≡◌}
-use Prim.Native.Nat.{◌-◌, ◌≤◌}
 use native.Mathlib.Numerals.{add-one}
 use native.Mathlib.Omega.{arith}
 use Rattle.program.specs.Program.{class_count}
 use Rattle.program.specs.Tables.{program_in}
-use Rattle.reader.specs.Formed.{Formed}
-use Rattle.flow.specs.Flows.{each}
 use Rattle.slots.specs.Layout.{claim_in}
 use Rattle.carry.specs.Carried.{class_fields}
-use Rattle.order.specs.Raised.{Raised}
 use Rattle.order.proofs.Raising.{raised_none, raised_more}
 use Rattle.raise.proofs.start.all_fields.Goals as goal
 
@@ -31,7 +27,10 @@ loop-k-preserved c =
     )
 
 pub returns : goal.returns
-returns c formed =
-    let a = c.args in
-    let all : c.loop-k.k ≡ class_count (program_in a.t.now) = omega (arith, c.class_count-n.ensures.value) in
-    record { raised = rw all at (c.loop-k.invariant.1 formed) }
+returns c =
+    record {
+      raised = λ formed.
+          let a = c.args in
+          let all : c.loop-k.k ≡ class_count (program_in a.t.now) = omega (arith, c.class_count-n.ensures.value) in
+          rw all at (c.loop-k.invariant.1 formed);
+    }

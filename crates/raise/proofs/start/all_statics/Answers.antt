@@ -1,16 +1,12 @@
 -- `raise::start::all_statics` meets its contract. The loop's invariant: the statics before the next have zero's bit. Assumes nothing.
 -- zero goes into a static
 use mathlib.Core.Path.{◌≡◌}
-use Prim.Native.Nat.{ℕ, ◌-◌, ◌≤◌}
 use native.Mathlib.Numerals.{add-one}
 use native.Mathlib.Omega.{arith}
 use Rattle.mask.specs.Mask.{zero_bit}
 use Rattle.program.specs.Tables.{program_in}
-use Rattle.reader.specs.Formed.{Formed}
 use Rattle.flow.specs.Claim.{static_of}
-use Rattle.flow.specs.Flows.{Flows, ◌∈◌, each}
 use Rattle.slots.specs.Layout.{claim_in}
-use Rattle.order.specs.Raised.{Raised}
 use Rattle.order.proofs.Raising.{raised_none, raised_more}
 use Rattle.raise.proofs.Places.{own_inside}
 use Rattle.raise.proofs.AtOnce.{raised_one}
@@ -34,7 +30,10 @@ loop-x-preserved c =
     )
 
 pub returns : goal.returns
-returns c formed =
-    let a = c.args in
-    let all : c.loop-x.x ≡ (program_in a.t.now).statics = omega (arith, c.static_count-n.ensures.value) in
-    record { raised = rw all at (c.loop-x.invariant.1 formed) }
+returns c =
+    record {
+      raised = λ formed.
+          let a = c.args in
+          let all : c.loop-x.x ≡ (program_in a.t.now).statics = omega (arith, c.static_count-n.ensures.value) in
+          rw all at (c.loop-x.invariant.1 formed);
+    }

@@ -1,8 +1,5 @@
 -- `raise::start::all_statics`: what its loops keep, and what falls.
-use mathlib.Core.Path.{◌≡◌}
 use Prim.Native.Nat.{ℕ, ◌-◌, ◌≤◌}
-use native.Mathlib.Numerals.{add-one}
-use native.Mathlib.Omega.{arith}
 use Rattle.mask.specs.Mask.{zero_bit}
 use Rattle.program.specs.Tables.{program_in}
 use Rattle.reader.specs.Formed.{Formed}
@@ -10,9 +7,6 @@ use Rattle.flow.specs.Claim.{static_of}
 use Rattle.flow.specs.Flows.{Flows, ◌∈◌, each}
 use Rattle.slots.specs.Layout.{claim_in}
 use Rattle.order.specs.Raised.{Raised}
-use Rattle.order.proofs.Raising.{raised_none, raised_more}
-use Rattle.raise.proofs.Places.{own_inside}
-use Rattle.raise.proofs.AtOnce.{raised_one}
 use Rattle.raise.proofs.start.all_statics.Given as goal
 
 abbrev pub zero_static : ℕ → Flows

@@ -1,17 +1,15 @@
 -- `raise::start::entry` meets its contract. The loop's invariant: the registers before the next have zero's bit. Assumes nothing.
 -- zero goes into a register
 use mathlib.Core.Path.{◌≡◌}
-use Prim.Native.Nat.{ℕ, ◌-◌, ◌≤◌, ◌<◌}
+use Prim.Native.Nat.{◌-◌}
 use native.Mathlib.Numerals.{add-one}
 use native.Mathlib.Omega.{arith}
 use Rattle.mask.specs.Mask.{zero_bit}
-use Rattle.program.specs.Program.{method_count, registers, arguments}
+use Rattle.program.specs.Program.{registers, arguments}
 use Rattle.program.specs.Tables.{program_in}
-use Rattle.reader.specs.Formed.{Formed}
 use Rattle.flow.specs.Claim.{register_at, result_at}
-use Rattle.flow.specs.Flows.{Flows, ◌∈◌, each}
+use Rattle.flow.specs.Flows.{◌∈◌, each}
 use Rattle.slots.specs.Layout.{claim_in}
-use Rattle.order.specs.Raised.{Raised}
 use Rattle.order.proofs.Raising.{raised_both, raised_none, raised_more}
 use Rattle.raise.proofs.Places.{own_inside}
 use Rattle.raise.proofs.AtOnce.{raised_one}
@@ -39,15 +37,16 @@ loop-r-preserved c =
     )
 
 pub returns : goal.returns
-returns c formed lm =
-    let a = c.args in
-    let p = program_in a.t.now in
-    let m = a.m in
-    let all : c.loop-r.r ≡ registers p m - arguments p m = omega (arith, c.locals-n.ensures.value) in
-    let f = formed.methods m lm in
-    let inside = own_inside p formed (result_at m 0) (lm, omega (arith, f.code_from)) in
+returns c =
     record {
-      raised = raised_both (each (registers p m - arguments p m) (zero_at m)) (zero_bit ∈ result_at m 0) _ _ _
+      raised = λ formed lm.
+          let a = c.args in
+          let p = program_in a.t.now in
+          let m = a.m in
+          let all : c.loop-r.r ≡ registers p m - arguments p m = omega (arith, c.locals-n.ensures.value) in
+          let f = formed.methods m lm in
+          let inside = own_inside p formed (result_at m 0) (lm, omega (arith, f.code_from)) in
+          raised_both (each (registers p m - arguments p m) (zero_at m)) (zero_bit ∈ result_at m 0) _ _ _
           (rw all at (c.loop-r.invariant.1 formed lm))
           (raised_one zero_bit c.one-2.result (result_at m 0) _ _ (c.one-2.ensures.bits (omega arith)) (c.join_result.ensures.joined inside));
     }

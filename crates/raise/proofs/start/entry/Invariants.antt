@@ -1,19 +1,13 @@
 -- `raise::start::entry`: what its loops keep, and what falls.
-use mathlib.Core.Path.{◌≡◌}
 use Prim.Native.Nat.{ℕ, ◌-◌, ◌≤◌, ◌<◌}
-use native.Mathlib.Numerals.{add-one}
-use native.Mathlib.Omega.{arith}
 use Rattle.mask.specs.Mask.{zero_bit}
-use Rattle.program.specs.Program.{method_count, registers, arguments}
+use Rattle.program.specs.Program.{method_count}
 use Rattle.program.specs.Tables.{program_in}
 use Rattle.reader.specs.Formed.{Formed}
-use Rattle.flow.specs.Claim.{register_at, result_at}
+use Rattle.flow.specs.Claim.{register_at}
 use Rattle.flow.specs.Flows.{Flows, ◌∈◌, each}
 use Rattle.slots.specs.Layout.{claim_in}
 use Rattle.order.specs.Raised.{Raised}
-use Rattle.order.proofs.Raising.{raised_both, raised_none, raised_more}
-use Rattle.raise.proofs.Places.{own_inside}
-use Rattle.raise.proofs.AtOnce.{raised_one}
 use Rattle.raise.proofs.start.entry.Given as goal
 
 abbrev pub zero_at : ℕ → ℕ → Flows

@@ -13,18 +13,22 @@ use Rattle.raise.proofs.AtOnce.{raised_one}
 use Rattle.raise.proofs.start.field_of.Goals as goal
 
 pub returns-then-has_field : goal.returns-then-has_field
-returns-then-has_field c formed lk =
-    let a = c.args in
-    let p = program_in a.t.now in
-    let there = field_of a.k a.x in
-    let own = sym c.has_field.ensures.value ∙ c.if-has_field.true in
+returns-then-has_field c =
     record {
-      raised = raised_when _ (zero_bit ∈ there) _ _ own
+      raised = λ formed lk.
+          let a = c.args in
+          let p = program_in a.t.now in
+          let there = field_of a.k a.x in
+          let own = sym c.has_field.ensures.value ∙ c.if-has_field.true in
+          raised_when _ (zero_bit ∈ there) _ _ own
           (raised_one zero_bit c.one.result there _ _ (c.one.ensures.bits (omega arith))
           (c.join_field.ensures.joined (own_inside p formed there (lk, field_exists p a.k a.x own, own))));
     }
 
 pub returns : goal.returns
-returns c formed lk =
-    let a = c.args in
-    record { raised = left_when _ (zero_bit ∈ field_of a.k a.x) (claim_in a.w.now) (sym c.has_field.ensures.value ∙ c.if-has_field.false) }
+returns c =
+    record {
+      raised = λ formed lk.
+          let a = c.args in
+          left_when _ (zero_bit ∈ field_of a.k a.x) (claim_in a.w.now) (sym c.has_field.ensures.value ∙ c.if-has_field.false);
+    }

@@ -1,14 +1,10 @@
 -- `raise::start::fields_of` meets its contract. The loop's invariant: the fields before the next have zero's bit. Assumes nothing.
 use mathlib.Core.Path.{◌≡◌}
-use Prim.Native.Nat.{◌-◌, ◌≤◌, ◌<◌}
 use native.Mathlib.Numerals.{add-one}
 use native.Mathlib.Omega.{arith}
-use Rattle.program.specs.Program.{class_count, field_count}
+use Rattle.program.specs.Program.{field_count}
 use Rattle.program.specs.Tables.{program_in}
-use Rattle.reader.specs.Formed.{Formed}
-use Rattle.flow.specs.Flows.{each}
 use Rattle.slots.specs.Layout.{claim_in}
-use Rattle.order.specs.Raised.{Raised}
 use Rattle.order.proofs.Raising.{raised_none, raised_more}
 use Rattle.raise.specs.Inside.{zero_field}
 use Rattle.raise.proofs.start.fields_of.Goals as goal
@@ -29,7 +25,10 @@ loop-x-preserved c =
     )
 
 pub returns : goal.returns
-returns c formed lk =
-    let a = c.args in
-    let all : c.loop-x.x ≡ field_count (program_in a.t.now) = omega (arith, c.field_count-n.ensures.value) in
-    record { raised = rw all at (c.loop-x.invariant.1 formed lk) }
+returns c =
+    record {
+      raised = λ formed lk.
+          let a = c.args in
+          let all : c.loop-x.x ≡ field_count (program_in a.t.now) = omega (arith, c.field_count-n.ensures.value) in
+          rw all at (c.loop-x.invariant.1 formed lk);
+    }

@@ -1,15 +1,11 @@
 -- `raise::start::fields_of`: what its loops keep, and what falls.
-use mathlib.Core.Path.{◌≡◌}
 use Prim.Native.Nat.{◌-◌, ◌≤◌, ◌<◌}
-use native.Mathlib.Numerals.{add-one}
-use native.Mathlib.Omega.{arith}
-use Rattle.program.specs.Program.{class_count, field_count}
+use Rattle.program.specs.Program.{class_count}
 use Rattle.program.specs.Tables.{program_in}
 use Rattle.reader.specs.Formed.{Formed}
 use Rattle.flow.specs.Flows.{each}
 use Rattle.slots.specs.Layout.{claim_in}
 use Rattle.order.specs.Raised.{Raised}
-use Rattle.order.proofs.Raising.{raised_none, raised_more}
 use Rattle.raise.specs.Inside.{zero_field}
 use Rattle.raise.proofs.start.fields_of.Given as goal
 

@@ -5,6 +5,9 @@ use Rattle.order.proofs.Raising.{raised_both}
 use Rattle.raise.proofs.start.initial_memory.Goals as goal
 
 pub returns : goal.returns
-returns c formed =
-    let p = program_in c.args.t.now in
-    record { raised = raised_both (all_fields p) (all_statics p) _ _ _ (c.all_fields.ensures.raised formed) (c.all_statics.ensures.raised formed) }
+returns c =
+    record {
+      raised = λ formed.
+          let p = program_in c.args.t.now in
+          raised_both (all_fields p) (all_statics p) _ _ _ (c.all_fields.ensures.raised formed) (c.all_statics.ensures.raised formed);
+    }

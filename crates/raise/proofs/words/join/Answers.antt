@@ -2,18 +2,22 @@
 use mathlib.Core.Path.{◌≡◌}
 use native.Mathlib.Omega.{arith}
 use lib.ListN.{length}
-use borrow.Author.Rules.{rules}
 use Rattle.raise.proofs.Places.{joined_at}
 use Rattle.raise.proofs.words.join.Goals as goal
 
 pub returns-then-i-lt9712 : goal.returns-then-i-lt9712
-returns-then-i-lt9712 c s e l =
-    let a = c.args in
-    let size : length a.w.now ≡ 9712 = c.put-arg-1.given.0.1 in
+returns-then-i-lt9712 c =
     record {
-      joined = rw c.put.ensures.memory
+      joined = λ s e l.
+          let a = c.args in
+          let size : length a.w.now ≡ 9712 = c.put-arg-1.given.0.1 in
+          rw c.put.ensures.memory
           (joined_at a.w.now a.i a.mask c.join-all.result size (omega arith) c.join-all.ensures.bits s e);
     }
 
 pub returns : goal.returns
-returns c s e l = record { joined = absurd (omega (arith, e, l)) }
+returns c =
+    record {
+      joined = λ s e l.
+          absurd (omega (arith, e, l));
+    }

@@ -4,6 +4,9 @@ use Rattle.flow.specs.Claim.{field_of}
 use Rattle.raise.proofs.words.join_field.Goals as goal
 
 pub returns : goal.returns
-returns c l =
-    let a = c.args in
-    record { joined = c.join.ensures.joined (field_of a.k a.x) (sym c.field_place.ensures.value) l }
+returns c =
+    record {
+      joined = λ l.
+          let a = c.args in
+          c.join.ensures.joined (field_of a.k a.x) (sym c.field_place.ensures.value) l;
+    }

@@ -4,4 +4,8 @@ use Rattle.flow.specs.Claim.{leaving}
 use Rattle.raise.proofs.words.join_leaving.Goals as goal
 
 pub returns : goal.returns
-returns c l = record { joined = c.join.ensures.joined (leaving c.args.m) (sym c.leaving_place.ensures.value) l }
+returns c =
+    record {
+      joined = λ l.
+          c.join.ensures.joined (leaving c.args.m) (sym c.leaving_place.ensures.value) l;
+    }

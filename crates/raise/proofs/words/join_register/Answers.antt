@@ -4,6 +4,9 @@ use Rattle.flow.specs.Claim.{register_at}
 use Rattle.raise.proofs.words.join_register.Goals as goal
 
 pub returns : goal.returns
-returns c l =
-    let a = c.args in
-    record { joined = c.join.ensures.joined (register_at a.m a.pc a.r) (sym c.register_place.ensures.value) l }
+returns c =
+    record {
+      joined = λ l.
+          let a = c.args in
+          c.join.ensures.joined (register_at a.m a.pc a.r) (sym c.register_place.ensures.value) l;
+    }

@@ -4,4 +4,8 @@ use Rattle.flow.specs.Claim.{returned_by}
 use Rattle.raise.proofs.words.join_returned.Goals as goal
 
 pub returns : goal.returns
-returns c l = record { joined = c.join.ensures.joined (returned_by c.args.m) (sym c.returned_place.ensures.value) l }
+returns c =
+    record {
+      joined = λ l.
+          c.join.ensures.joined (returned_by c.args.m) (sym c.returned_place.ensures.value) l;
+    }

@@ -4,4 +4,8 @@ use Rattle.flow.specs.Claim.{static_of}
 use Rattle.raise.proofs.words.join_static.Goals as goal
 
 pub returns : goal.returns
-returns c l = record { joined = c.join.ensures.joined (static_of c.args.x) (sym c.static_place.ensures.value) l }
+returns c =
+    record {
+      joined = λ l.
+          c.join.ensures.joined (static_of c.args.x) (sym c.static_place.ensures.value) l;
+    }

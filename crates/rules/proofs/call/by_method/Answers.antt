@@ -1,6 +1,5 @@
 -- `rules::call::by_method` meets its contract. Assumes nothing.
 use native.Mathlib.Numerals.{add-one}
-use native.Mathlib.Omega.{arith}
 use Rattle.program.specs.Tables.{program_in}
 use Rattle.slots.specs.Layout.{claim_in}
 use Rattle.rules.proofs.Arguments.{from_first}

@@ -4,12 +4,11 @@ use mathlib.Core.Bool.{◌&&◌, ◌||◌}
 use Prim.Native.Nat.{ℕ, suc}
 use native.Mathlib.Numerals.{add-one}
 use native.Mathlib.Nat.{add-zero}
-use native.Mathlib.Omega.{arith}
 use Rattle.mask.specs.declared.Mask.{Mask}
 use Rattle.mask.specs.Mask.{has, subset}
 use Rattle.program.specs.Tables.{program_in}
 use Rattle.program.proofs.Read.{classes_limit, methods_limit}
-use Rattle.flow.specs.Claim.{register_at, returned_by, result_at, leaving}
+use Rattle.flow.specs.Claim.{register_at, returned_by, result_at}
 use Rattle.slots.specs.Layout.{claim_in}
 use Rattle.sets.proofs.Receivers.{receivers_are}
 use Rattle.rules.proofs.Dispatch.{none_given, none_returned, none_leaves, one_given, one_returned, one_leaves}
@@ -53,12 +52,12 @@ returns c =
           c.subset-returned.ensures.value
           ∙ ap (λ (i : Mask). subset i c.result.result) c.returned.ensures.value
           ∙ ap (subset (cl (returned_by a.q))) (c.result.ensures.value ∙ ap (λ (i : ℕ). cl (result_at a.m i)) (add-one a.pc)) in c.both-3.ensures.value
-                  ∙ ap (◌&&◌ a.prior.returned) (returned ∙ one_returned p cl a.m a.pc a.mask a.name a.count a.q r bits one);
+          ∙ ap (◌&&◌ a.prior.returned) (returned ∙ one_returned p cl a.m a.pc a.mask a.name a.count a.q r bits one);
       raised = let returned : c.subset-returned.result ≡ subset (cl (returned_by a.q)) (cl (result_at a.m (suc a.pc))) =
           c.subset-returned.ensures.value
           ∙ ap (λ (i : Mask). subset i c.result.result) c.returned.ensures.value
           ∙ ap (subset (cl (returned_by a.q))) (c.result.ensures.value ∙ ap (λ (i : ℕ). cl (result_at a.m i)) (add-one a.pc)) in (λ k. c.join.ensures.bits k
-                  ∙ ap (◌||◌ (has a.prior.raised k))
-                  (ap (λ (m : Mask). has m k) c.leaving.ensures.value
-                  ∙ one_leaves p cl a.m a.pc a.mask a.name a.count a.q r bits one k));
+          ∙ ap (◌||◌ (has a.prior.raised k))
+          (ap (λ (m : Mask). has m k) c.leaving.ensures.value
+          ∙ one_leaves p cl a.m a.pc a.mask a.name a.count a.q r bits one k));
     }

@@ -1,10 +1,10 @@
 -- `rules::call::take_callees` meets its contract. The loop's invariant: what has come of the methods before the next one. Assumes nothing.
 use mathlib.Core.Path.{◌≡◌, refl, sym, ap, ◌∙◌}
 use mathlib.Core.Bool.{Bool, ◌&&◌, ◌||◌}
-use Prim.Native.Nat.{ℕ, ◌-◌, ◌≤◌}
+use Prim.Native.Nat.{ℕ}
 use native.Mathlib.Numerals.{add-one}
 use native.Mathlib.Omega.{arith}
-use Rattle.mask.specs.Mask.{has, every}
+use Rattle.mask.specs.Mask.{every}
 use Rattle.mask.proofs.Sets.{no_bit, every_more}
 use Rattle.program.specs.Program.{method_count}
 use Rattle.program.specs.Tables.{program_in}

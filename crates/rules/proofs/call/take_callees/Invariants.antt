@@ -1,16 +1,10 @@
 -- `rules::call::take_callees`: what its loops keep, and what falls.
-use mathlib.Core.Path.{◌≡◌, refl, sym, ap, ◌∙◌}
-use mathlib.Core.Bool.{Bool, ◌&&◌, ◌||◌}
+use mathlib.Core.Path.{◌≡◌}
 use Prim.Native.Nat.{ℕ, ◌-◌, ◌≤◌}
-use native.Mathlib.Numerals.{add-one}
-use native.Mathlib.Omega.{arith}
 use Rattle.mask.specs.Mask.{has, every}
-use Rattle.mask.proofs.Sets.{no_bit, every_more}
-use Rattle.program.specs.Program.{method_count}
 use Rattle.program.specs.Tables.{program_in}
 use Rattle.flow.specs.Flows.{some}
 use Rattle.slots.specs.Layout.{claim_in}
-use Rattle.sets.proofs.Named.{some_more}
 use Rattle.rules.specs.Broken.{callee_given, callee_returned, leaves_callee}
 use Rattle.rules.proofs.call.take_callees.Given as goal
 

@@ -2,18 +2,17 @@
 -- rule 9 holds for what they do. The measure is h. Assumes nothing.
 use mathlib.Core.Path.{◌≡◌, sym, ap, ◌∙◌}
 use mathlib.Core.Bool.{true, false, ◌&&◌, ◌||◌}
-use Prim.Native.Nat.{◌+◌, ◌-◌, ◌≤◌, ◌<◌}
+use Prim.Native.Nat.{◌+◌, ◌-◌, ◌<◌}
 use native.Mathlib.Omega.{arith}
-use borrow.Author.Tests.{not-true, not-false}
 use Rattle.mask.specs.Mask.{subset}
 use Rattle.program.specs.Program.{handler_count, handler_target}
 use Rattle.program.specs.Tables.{program_in}
-use Rattle.flow.specs.Claim.{result_at, leaving}
+use Rattle.flow.specs.Claim.{result_at}
 use Rattle.flow.specs.Flows.{kept}
 use Rattle.flow.specs.Rules.{carried}
 use Rattle.slots.specs.Layout.{mask_of, claim_in}
-use Rattle.sets.proofs.Handlers.{all_classes, only_classes, Rest, rest_start, rest_more}
-use Rattle.rules.proofs.Handlers.{same_raised, Held, held_start, held_more, broken_here, raised_is}
+use Rattle.sets.proofs.Handlers.{all_classes, only_classes, rest_start, rest_more}
+use Rattle.rules.proofs.Handlers.{same_raised, held_start, held_more, broken_here, raised_is}
 use Rattle.rules.proofs.raise.raised.Goals as goal
 
 pub loop-h-init : goal.loop-h-init

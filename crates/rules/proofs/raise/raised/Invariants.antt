@@ -1,18 +1,10 @@
 -- `rules::raise::raised`: what its loops keep, and what falls.
-use mathlib.Core.Path.{◌≡◌, sym, ap, ◌∙◌}
-use mathlib.Core.Bool.{true, false, ◌&&◌, ◌||◌}
-use Prim.Native.Nat.{◌+◌, ◌-◌, ◌≤◌, ◌<◌}
-use native.Mathlib.Omega.{arith}
-use borrow.Author.Tests.{not-true, not-false}
-use Rattle.mask.specs.Mask.{subset}
-use Rattle.program.specs.Program.{handler_count, handler_target}
+use Prim.Native.Nat.{◌≤◌}
+use Rattle.program.specs.Program.{handler_count}
 use Rattle.program.specs.Tables.{program_in}
-use Rattle.flow.specs.Claim.{result_at, leaving}
-use Rattle.flow.specs.Flows.{kept}
-use Rattle.flow.specs.Rules.{carried}
-use Rattle.slots.specs.Layout.{mask_of, claim_in}
-use Rattle.sets.proofs.Handlers.{all_classes, only_classes, Rest, rest_start, rest_more}
-use Rattle.rules.proofs.Handlers.{same_raised, Held, held_start, held_more, broken_here, raised_is}
+use Rattle.slots.specs.Layout.{claim_in}
+use Rattle.sets.proofs.Handlers.{Rest}
+use Rattle.rules.proofs.Handlers.{Held}
 use Rattle.rules.proofs.raise.raised.Given as goal
 
 abbrev pub invariant-loop-h : goal.invariant-loop-h

@@ -1,5 +1,4 @@
 -- `rules::step::static_written` meets its contract. Assumes nothing.
-use native.Mathlib.Omega.{arith}
 use native.Mathlib.Numerals.{add-one}
 use Rattle.rules.proofs.step.static_written.Goals as goal
 

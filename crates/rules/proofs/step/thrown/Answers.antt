@@ -32,5 +32,7 @@ returns c =
     λ k. c.add-raised.ensures.bits k
     ∙ ap (λ (t : Bool). has c.common-throwable.result k || (eqb k 2 && (ltb k 64 && t)))
     (c.has.ensures.value ∙ ap (λ (y : Mask). has y 62) c.register-mask.ensures.value) in
-    record { value = c.raised.ensures.value
-    ∙ thrown_raised p cl a.m a.pc a.from c.common-throwable.result bits (omega (arith, classes_limit a.t.now)) c.add-raised.result more }
+    record {
+      value = c.raised.ensures.value
+          ∙ thrown_raised p cl a.m a.pc a.from c.common-throwable.result bits (omega (arith, classes_limit a.t.now)) c.add-raised.result more;
+    }

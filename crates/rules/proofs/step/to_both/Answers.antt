@@ -1,5 +1,4 @@
 -- `rules::step::to_both` meets its contract. Assumes nothing.
-use native.Mathlib.Omega.{arith}
 use native.Mathlib.Numerals.{add-one}
 use Rattle.rules.proofs.step.to_both.Goals as goal
 

@@ -1,5 +1,4 @@
 -- `rules::step::to_next` meets its contract. Assumes nothing.
-use native.Mathlib.Omega.{arith}
 use native.Mathlib.Numerals.{add-one}
 use Rattle.rules.proofs.step.to_next.Goals as goal
 

@@ -1,7 +1,6 @@
 -- `rules::write::binary` meets its contract. Assumes nothing.
 use mathlib.Core.Path.{◌≡◌, ap, ◌∙◌}
 use mathlib.Core.Bool.{◌&&◌}
-use Prim.Native.Nat.{ℕ}
 use Rattle.mask.specs.Mask.{has}
 use Rattle.program.specs.Tables.{program_in}
 use Rattle.flow.specs.Claim.{register_at}

@@ -1,7 +1,6 @@
 -- `rules::write::cast` meets its contract. Assumes nothing.
 use mathlib.Core.Path.{◌≡◌, ap, ◌∙◌}
 use mathlib.Core.Bool.{Bool, not, ◌||◌}
-use native.Mathlib.Omega.{arith}
 use native.Mathlib.Numerals.{add-one}
 use Rattle.instruction.specs.declared.Instruction.TheVariants.{CheckCast}
 use Rattle.mask.specs.Mask.{has, every, subset}

@@ -1,5 +1,4 @@
 -- `rules::write::constant` meets its contract. Assumes nothing.
-use native.Mathlib.Omega.{arith}
 use native.Mathlib.Numerals.{add-one}
 use mir.Syntax.{w32}
 use mir.ValLaws.{to_z-of_z}

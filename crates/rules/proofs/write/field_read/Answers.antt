@@ -1,7 +1,6 @@
 -- `rules::write::field_read` meets its contract. Assumes nothing.
 use mathlib.Core.Path.{ap, ◌∙◌}
 use mathlib.Core.Bool.{Bool}
-use native.Mathlib.Omega.{arith}
 use native.Mathlib.Numerals.{add-one}
 use Rattle.mask.specs.Mask.{subset}
 use Rattle.program.specs.Program.{class_count}

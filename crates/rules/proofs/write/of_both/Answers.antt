@@ -1,5 +1,4 @@
 -- `rules::write::of_both` meets its contract. Assumes nothing.
-use native.Mathlib.Omega.{arith}
 use native.Mathlib.Numerals.{add-one}
 use Rattle.rules.proofs.write.of_both.Goals as goal
 

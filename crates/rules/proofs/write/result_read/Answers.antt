@@ -1,5 +1,4 @@
 -- `rules::write::result_read` meets its contract. Assumes nothing.
-use native.Mathlib.Omega.{arith}
 use native.Mathlib.Numerals.{add-one}
 use Rattle.rules.proofs.write.result_read.Goals as goal
 

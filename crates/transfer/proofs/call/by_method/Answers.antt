@@ -1,7 +1,6 @@
 -- `transfer::call::by_method` meets its contract. Assumes nothing.
 use Prim.Native.Nat.{suc}
 use native.Mathlib.Numerals.{add-one}
-use native.Mathlib.Omega.{arith}
 use Rattle.program.specs.Tables.{program_in}
 use Rattle.search.specs.declared.Callee.TheVariants.{Found}
 use Rattle.flow.specs.Flows.{◌&◌, each, found}
@@ -15,15 +14,16 @@ pub come_back-requires : goal.come_back-requires
 come_back-requires c = c.requires
 
 pub returns : goal.returns
-returns c made lq same formed lm lp =
-    let a = c.args in
-    let p = program_in a.t.now in
-    let q = a.method in
-    let on = carried p a.m a.pc (suc a.pc) in
-    let given = found (Found q) (λ callee. each a.count (argument_into p a.m a.pc a.register callee)) in
-    let back = from_callee p a.m a.pc q in
+returns c =
     record {
-      raised = raised_five on given (returned_into p a.m a.pc q)
+      raised = λ made lq same formed lm lp.
+          let a = c.args in
+          let p = program_in a.t.now in
+          let q = a.method in
+          let on = carried p a.m a.pc (suc a.pc) in
+          let given = found (Found q) (λ callee. each a.count (argument_into p a.m a.pc a.register callee)) in
+          let back = from_callee p a.m a.pc q in
+          raised_five on given (returned_into p a.m a.pc q)
           (leaving_classes p a.m a.pc q (into_handler p a.m a.pc))
           (leaving_classes p a.m a.pc q (into_leaving p a.m a.pc))
           _

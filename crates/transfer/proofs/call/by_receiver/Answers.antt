@@ -1,7 +1,6 @@
 -- `transfer::call::by_receiver` meets its contract. Assumes nothing.
 use Prim.Native.Nat.{suc, ◌-◌}
 use native.Mathlib.Numerals.{add-one}
-use native.Mathlib.Omega.{arith}
 use Rattle.program.specs.Tables.{program_in}
 use Rattle.flow.specs.Flows.{◌&◌, each}
 use Rattle.flow.specs.Rules.{carried, receivers, receiver_into, argument_into, returned_into, leaving_classes, into_handler, into_leaving}
@@ -11,24 +10,25 @@ use Rattle.transfer.proofs.Raising.{raised_called}
 use Rattle.transfer.proofs.call.by_receiver.Goals as goal
 
 pub take_callees-called-requires : goal.take_callees-called-requires
-take_callees-called-requires c = ?before
+take_callees-called-requires c = c.requires
 
 pub returns : goal.returns
-returns c made some formed lm lp =
-    let a = ?before in
-    let p = program_in a.t.now in
-    let m = a.m in
-    let pc = a.pc in
-    let n = a.name in
-    let b = a.count in
-    let r = a.register in
-    let on = carried p m pc (suc pc) in
-    let six = receivers p m pc n b r (λ k q. receiver_into p m pc k q & each (b - 1) (λ i. argument_into p m pc r q (suc i))) in
-    let seven = receivers p m pc n b r (λ k. returned_into p m pc) in
-    let nine = receivers p m pc n b r (λ k q. leaving_classes p m pc q (into_handler p m pc)) in
-    let ten = receivers p m pc n b r (λ k q. leaving_classes p m pc q (into_leaving p m pc)) in
+returns c =
     record {
-      raised = raised_called nine ten _ _ _ _ _ on six seven
+      raised = λ made some formed lm lp.
+          let a = c.args in
+          let p = program_in a.t.now in
+          let m = a.m in
+          let pc = a.pc in
+          let n = a.name in
+          let b = a.count in
+          let r = a.register in
+          let on = carried p m pc (suc pc) in
+          let six = receivers p m pc n b r (λ k q. receiver_into p m pc k q & each (b - 1) (λ i. argument_into p m pc r q (suc i))) in
+          let seven = receivers p m pc n b r (λ k. returned_into p m pc) in
+          let nine = receivers p m pc n b r (λ k q. leaving_classes p m pc q (into_handler p m pc)) in
+          let ten = receivers p m pc n b r (λ k q. leaving_classes p m pc q (into_leaving p m pc)) in
+          raised_called nine ten _ _ _ _ _ on six seven
           (raised_both on (six & seven & nine & ten) _ _ _
           ((rw (add-one pc) at c.carry-new.ensures.raised) formed lm lp)
           (virtual_raised p m pc n b r _ _

@@ -1,7 +1,6 @@
 -- `transfer::call::come_back` meets its contract. Assumes nothing.
 use Prim.Native.Nat.{suc}
 use native.Mathlib.Numerals.{add-one}
-use native.Mathlib.Omega.{arith}
 use Rattle.program.specs.Tables.{program_in}
 use Rattle.flow.specs.Claim.{result_at, returned_by}
 use Rattle.flow.specs.Flows.{◌⊆◌, ◌&◌}
@@ -13,14 +12,15 @@ use Rattle.transfer.proofs.Stored.{leaving_raised}
 use Rattle.transfer.proofs.call.come_back.Goals as goal
 
 pub returns : goal.returns
-returns c made formed lm lp =
-    let a = ?before in
-    let p = program_in a.t.now in
-    let from = returned_by a.q in
-    let into = result_at a.m (suc a.pc) in
-    let joined = rw (add-one a.pc, c.returned-value.ensures.value) at c.join_result.ensures.joined in
+returns c =
     record {
-      raised = raised_both (from ⊆ into)
+      raised = λ made formed lm lp.
+          let a = c.args in
+          let p = program_in a.t.now in
+          let from = returned_by a.q in
+          let into = result_at a.m (suc a.pc) in
+          let joined = rw (add-one a.pc, c.returned-value.ensures.value) at c.join_result.ensures.joined in
+          raised_both (from ⊆ into)
           (leaving_classes p a.m a.pc a.q (into_handler p a.m a.pc)
           & leaving_classes p a.m a.pc a.q (into_leaving p a.m a.pc))
           _

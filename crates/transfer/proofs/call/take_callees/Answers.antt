@@ -2,19 +2,16 @@
 -- that lead there. Assumes nothing.
 use mathlib.Core.Path.{◌≡◌, sym, ◌∙◌}
 use mathlib.Core.Bool.{true}
-use Prim.Native.Nat.{ℕ, suc, ◌-◌, ◌≤◌, ◌<◌}
+use Prim.Native.Nat.{ℕ, ◌<◌}
 use native.Mathlib.Numerals.{add-one}
 use native.Mathlib.Omega.{arith}
 use Rattle.mask.specs.Mask.{has}
 use Rattle.program.specs.Program.{method_count, arguments}
 use Rattle.program.specs.Tables.{program_in}
 use Rattle.program.proofs.Read.{classes_limit, methods_limit}
-use Rattle.flow.specs.Flows.{each}
 use Rattle.slots.specs.Layout.{claim_in}
-use Rattle.sets.specs.Sets.{sets_of}
 use Rattle.sets.proofs.Receivers.{receivers_are}
 use Rattle.order.proofs.Raising.{raised_none, raised_more}
-use Rattle.raise.specs.Raises.{Flowing}
 use Rattle.transfer.specs.Transfer.{leading_class, called_from}
 use Rattle.transfer.proofs.Called.{leading_fits, called_test}
 use Rattle.transfer.proofs.call.take_callees.Goals as goal
@@ -52,7 +49,10 @@ loop-q-preserved c =
     )
 
 pub returns : goal.returns
-returns c made some formed lm lp =
-    let a = c.args in
-    let all : c.loop-q.q ≡ method_count (program_in a.t.now) = omega (arith, c.method_count-n.ensures.value) in
-    record { raised = rw all at (c.loop-q.invariant.1 made some formed lm lp) }
+returns c =
+    record {
+      raised = λ made some formed lm lp.
+          let a = c.args in
+          let all : c.loop-q.q ≡ method_count (program_in a.t.now) = omega (arith, c.method_count-n.ensures.value) in
+          rw all at (c.loop-q.invariant.1 made some formed lm lp);
+    }

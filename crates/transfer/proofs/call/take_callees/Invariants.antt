@@ -1,21 +1,12 @@
 -- `transfer::call::take_callees`: what its loops keep, and what falls.
-use mathlib.Core.Path.{◌≡◌, sym, ◌∙◌}
-use mathlib.Core.Bool.{true}
-use Prim.Native.Nat.{ℕ, suc, ◌-◌, ◌≤◌, ◌<◌}
-use native.Mathlib.Numerals.{add-one}
-use native.Mathlib.Omega.{arith}
-use Rattle.mask.specs.Mask.{has}
-use Rattle.program.specs.Program.{method_count, arguments}
+use mathlib.Core.Path.{◌≡◌}
+use Prim.Native.Nat.{suc, ◌-◌, ◌≤◌, ◌<◌}
 use Rattle.program.specs.Tables.{program_in}
-use Rattle.program.proofs.Read.{classes_limit, methods_limit}
 use Rattle.flow.specs.Flows.{each}
 use Rattle.slots.specs.Layout.{claim_in}
 use Rattle.sets.specs.Sets.{sets_of}
-use Rattle.sets.proofs.Receivers.{receivers_are}
-use Rattle.order.proofs.Raising.{raised_none, raised_more}
 use Rattle.raise.specs.Raises.{Flowing}
-use Rattle.transfer.specs.Transfer.{leading_class, called_from}
-use Rattle.transfer.proofs.Called.{leading_fits, called_test}
+use Rattle.transfer.specs.Transfer.{called_from}
 use Rattle.transfer.proofs.call.take_callees.Given as goal
 
 abbrev pub invariant-loop-q : goal.invariant-loop-q

@@ -10,10 +10,13 @@ use Rattle.transfer.proofs.Raising.{null_raised}
 use Rattle.transfer.proofs.own.null_used.Goals as goal
 
 pub returns : goal.returns
-returns c made formed lm =
-    let a = ?before in
-    let p = program_in a.t.now in
-    let cl = claim_in a.w.now in
-    let is : c.has.result ≡ has (cl (register_at a.m a.pc a.object)) 62 =
-    c.has.ensures.value ∙ ap (λ (x : Mask). has x 62) c.register-mask.ensures.value in
-    record { raised = null_raised p a.m a.pc cl _ c.has.result a.object is (c.own.ensures.raised made (omega arith) formed lm) }
+returns c =
+    record {
+      raised = λ made formed lm.
+          let a = c.args in
+          let p = program_in a.t.now in
+          let cl = claim_in a.w.now in
+          let is : c.has.result ≡ has (cl (register_at a.m a.pc a.object)) 62 =
+          c.has.ensures.value ∙ ap (λ (x : Mask). has x 62) c.register-mask.ensures.value in
+          null_raised p a.m a.pc cl _ c.has.result a.object is (c.own.ensures.raised made (omega arith) formed lm);
+    }

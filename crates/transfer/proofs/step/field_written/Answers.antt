@@ -3,7 +3,6 @@ use mathlib.Core.Path.{◌≡◌}
 use mathlib.Core.Bool.{true, ◌&&◌}
 use Prim.Native.Nat.{ℕ, suc, ◌<◌}
 use native.Mathlib.Numerals.{add-one}
-use native.Mathlib.Omega.{arith}
 use lib.Dec.{ltb}
 use Rattle.mask.specs.Mask.{has}
 use Rattle.program.specs.Program.{class_count}
@@ -23,23 +22,26 @@ use Rattle.transfer.proofs.Raising.{raised_after}
 use Rattle.transfer.proofs.step.field_written.Goals as goal
 
 pub returns : goal.returns
-returns c made formed lm lp =
-    let a = ?before in
-    let p = program_in a.t.now in
-    let here = register_at a.m a.pc a.from in
-    let f = classes_with_field p a.m a.pc a.object a.field (λ k. here ⊆ field_of k a.field) in
-    let cl = claim_in c.onward-new.new.1.0 in
-    let object = cl (register_at a.m a.pc a.object) in
-    let bits : (k : ℕ) → has c.with_field-having.result k ≡ has object k && (ltb k (class_count p) && has_field p k a.field) =
-    rw c.register-mask.ensures.value at (c.with_field-having.ensures.bits made) in
-    let inside : (k : ℕ) → has c.with_field-having.result k ≡ true → place_of (field_of k a.field) < claim_size = λ k s.
-    let few = classes_limit a.t.now in
-    let (g, l, own) = in_set p a.m a.pc a.from a.object a.field few c.with_field-having.result cl cl bits k s in
-    record { raised = own_inside p formed (field_of k a.field) (l, field_exists p k a.field own, own) in
-    raised_after _ _ _ _ _ _ _
-    (raised_both (onward p a.m a.pc (suc a.pc)) (f & nothing) _ _ _
-    ((rw (add-one a.pc) at c.onward-new.ensures.raised) formed lm lp)
-    (raised_last f _ _
-    (stored p a.m a.pc a.from a.object a.field (classes_limit a.t.now) c.with_field-having.result cl _ bits
-    (rw c.register-value.ensures.value at (c.into_fields.ensures.raised inside)))))
-    (c.null_used.ensures.raised made formed lm) }
+returns c =
+    record {
+      raised = λ made formed lm lp.
+          let a = c.args in
+          let p = program_in a.t.now in
+          let here = register_at a.m a.pc a.from in
+          let f = classes_with_field p a.m a.pc a.object a.field (λ k. here ⊆ field_of k a.field) in
+          let cl = claim_in c.onward-new.new.w in
+          let object = cl (register_at a.m a.pc a.object) in
+          let bits : (k : ℕ) → has c.with_field-having.result k ≡ has object k && (ltb k (class_count p) && has_field p k a.field) =
+          rw c.register-mask.ensures.value at (c.with_field-having.ensures.bits made) in
+          let inside : (k : ℕ) → has c.with_field-having.result k ≡ true → place_of (field_of k a.field) < claim_size = λ k s.
+          let few = classes_limit a.t.now in
+          let (g, l, own) = in_set p a.m a.pc a.from a.object a.field few c.with_field-having.result cl cl bits k s in
+          own_inside p formed (field_of k a.field) (l, field_exists p k a.field own, own) in
+          raised_after _ _ _ _ _ _ _
+          (raised_both (onward p a.m a.pc (suc a.pc)) (f & nothing) _ _ _
+          ((rw (add-one a.pc) at c.onward-new.ensures.raised) formed lm lp)
+          (raised_last f _ _
+          (stored p a.m a.pc a.from a.object a.field (classes_limit a.t.now) c.with_field-having.result cl _ bits
+          (rw c.register-value.ensures.value at (c.into_fields.ensures.raised inside)))))
+          (c.null_used.ensures.raised made formed lm);
+    }

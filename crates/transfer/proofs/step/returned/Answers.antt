@@ -9,12 +9,13 @@ use Rattle.transfer.proofs.Stored.{raised_last}
 use Rattle.transfer.proofs.step.returned.Goals as goal
 
 pub returns : goal.returns
-returns c formed lm =
-    let a = ?before in
-    let here = register_at a.m a.pc a.from in
-    let into = returned_by a.m in
+returns c =
     record {
-      raised = raised_last (here ⊆ into) _ _
+      raised = λ formed lm.
+          let a = c.args in
+          let here = register_at a.m a.pc a.from in
+          let into = returned_by a.m in
+          raised_last (here ⊆ into) _ _
           (raised_into here into (claim_in a.w.now) _
           (rw c.register-value.ensures.value at (c.join_returned.ensures.joined (own_inside (program_in a.t.now) formed into lm))));
     }

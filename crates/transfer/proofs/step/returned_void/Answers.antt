@@ -10,11 +10,12 @@ use Rattle.transfer.proofs.Stored.{raised_last}
 use Rattle.transfer.proofs.step.returned_void.Goals as goal
 
 pub returns : goal.returns
-returns c formed lm =
-    let a = c.args in
-    let into = returned_by a.m in
+returns c =
     record {
-      raised = raised_last (zero_bit ∈ into) _ _
+      raised = λ formed lm.
+          let a = c.args in
+          let into = returned_by a.m in
+          raised_last (zero_bit ∈ into) _ _
           (raised_one zero_bit c.one.result into _ _ (c.one.ensures.bits (omega arith))
           (c.join_returned.ensures.joined (own_inside (program_in a.t.now) formed into lm)));
     }

@@ -5,6 +5,9 @@ use Rattle.transfer.proofs.Stored.{raised_last}
 use Rattle.transfer.proofs.step.to_target.Goals as goal
 
 pub returns : goal.returns
-returns c formed lm lp =
-    let a = c.args in
-    record { raised = raised_last (onward (program_in a.t.now) a.m a.pc a.target) _ _ (c.onward.ensures.raised formed lm lp) }
+returns c =
+    record {
+      raised = λ formed lm lp.
+          let a = c.args in
+          raised_last (onward (program_in a.t.now) a.m a.pc a.target) _ _ (c.onward.ensures.raised formed lm lp);
+    }

@@ -6,4 +6,8 @@ pub of_both-new-requires : goal.of_both-new-requires
 of_both-new-requires c = c.requires
 
 pub returns : goal.returns
-returns c made la formed lm lp = record { raised = raised_after _ _ _ _ _ _ _ (c.of_both-new.ensures.raised formed lm lp la) (c.divided_by_zero.ensures.raised made formed lm) }
+returns c =
+    record {
+      raised = λ made la formed lm lp.
+          raised_after _ _ _ _ _ _ _ (c.of_both-new.ensures.raised formed lm lp la) (c.divided_by_zero.ensures.raised made formed lm);
+    }

@@ -13,17 +13,18 @@ use Rattle.transfer.proofs.Raising.{raised_after}
 use Rattle.transfer.proofs.write.cast.Goals as goal
 
 pub written-new-requires : goal.written-new-requires
-written-new-requires c = ?before
+written-new-requires c = c.requires
 
 pub returns : goal.returns
-returns c made la formed lm lp =
-    let a = ?before in
-    let p = program_in a.t.now in
-    let cl = claim_in a.w.now in
-    let bits : (k : ℕ) → has c.passing-value.result k ≡ has (cl (register_at a.m a.pc a.register)) k && passes_cast p a.class k =
-    rw c.register-mask.ensures.value at (c.passing-value.ensures.bits made) in
+returns c =
     record {
-      raised = raised_after _ _ _ _ _ _ _
+      raised = λ made la formed lm lp.
+          let a = c.args in
+          let p = program_in a.t.now in
+          let cl = claim_in a.w.now in
+          let bits : (k : ℕ) → has c.passing-value.result k ≡ has (cl (register_at a.m a.pc a.register)) k && passes_cast p a.class k =
+          rw c.register-mask.ensures.value at (c.passing-value.ensures.bits made) in
+          raised_after _ _ _ _ _ _ _
           (c.written-new.ensures.raised (cast_into p a.m a.pc a.register a.class)
           (gives_cast p a.m a.pc a.register a.class c.passing-value.result cl bits)
           formed

@@ -17,19 +17,20 @@ use Rattle.transfer.proofs.Raising.{raised_after}
 use Rattle.transfer.proofs.write.field_read.Goals as goal
 
 pub written-new-requires : goal.written-new-requires
-written-new-requires c = ?before
+written-new-requires c = c.requires
 
 pub returns : goal.returns
-returns c made la formed lm lp =
-    let a = ?before in
-    let p = program_in a.t.now in
-    let cl = claim_in a.w.now in
-    let after = register_at a.m (suc a.pc) a.to in
-    let object = cl (register_at a.m a.pc a.object) in
-    let bits : (k : ℕ) → has c.with_field-having.result k ≡ has object k && (ltb k (class_count p) && has_field p k a.field) =
-    rw c.register-mask.ensures.value at (c.with_field-having.ensures.bits made) in
+returns c =
     record {
-      raised = raised_after _ _ _ _ _ _ _
+      raised = λ made la formed lm lp.
+          let a = c.args in
+          let p = program_in a.t.now in
+          let cl = claim_in a.w.now in
+          let after = register_at a.m (suc a.pc) a.to in
+          let object = cl (register_at a.m a.pc a.object) in
+          let bits : (k : ℕ) → has c.with_field-having.result k ≡ has object k && (ltb k (class_count p) && has_field p k a.field) =
+          rw c.register-mask.ensures.value at (c.with_field-having.ensures.bits made) in
+          raised_after _ _ _ _ _ _ _
           (c.written-new.ensures.raised (classes_with_field p a.m a.pc a.object a.field (λ k. field_of k a.field ⊆ after))
           (gives_fields p a.m a.pc a.object a.field (classes_limit a.t.now) c.with_field-having.result c.from_fields-value.result cl bits
           c.from_fields-value.ensures.bits

@@ -10,7 +10,10 @@ pub written-requires : goal.written-requires
 written-requires c = c.requires
 
 pub returns : goal.returns
-returns c few =
-    let a = c.args in
-    let after = register_at a.m (suc a.pc) a.to in
-    record { raised = c.written.ensures.raised (a.class ∈ after) (gives_bit a.class c.one.result after (claim_in a.w.now) (c.one.ensures.bits few)) }
+returns c =
+    record {
+      raised = λ few.
+          let a = c.args in
+          let after = register_at a.m (suc a.pc) a.to in
+          c.written.ensures.raised (a.class ∈ after) (gives_bit a.class c.one.result after (claim_in a.w.now) (c.one.ensures.bits few));
+    }

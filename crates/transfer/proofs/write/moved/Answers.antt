@@ -7,11 +7,11 @@ use Rattle.transfer.proofs.Written.{gives_mask}
 use Rattle.transfer.proofs.write.moved.Goals as goal
 
 pub written-requires : goal.written-requires
-written-requires c = ?before
+written-requires c = c.requires
 
 pub returns : goal.returns
 returns c =
-    let a = ?before in
+    let a = c.args in
     let here = register_at a.m a.pc a.from in
     let after = register_at a.m (suc a.pc) a.to in
     record { raised = c.written.ensures.raised (here ⊆ after) (rw c.register-value.ensures.value (gives_mask here after (claim_in a.w.now))) }

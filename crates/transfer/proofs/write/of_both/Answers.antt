@@ -9,11 +9,11 @@ use Rattle.transfer.proofs.Written.{gives_numeric}
 use Rattle.transfer.proofs.write.of_both.Goals as goal
 
 pub written-requires : goal.written-requires
-written-requires c = ?before
+written-requires c = c.requires
 
 pub returns : goal.returns
 returns c =
-    let a = ?before in
+    let a = c.args in
     let left = register_at a.m a.pc a.left in
     let right = register_at a.m a.pc a.right in
     record {

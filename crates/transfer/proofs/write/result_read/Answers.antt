@@ -7,11 +7,11 @@ use Rattle.transfer.proofs.Written.{gives_mask}
 use Rattle.transfer.proofs.write.result_read.Goals as goal
 
 pub written-requires : goal.written-requires
-written-requires c = ?before
+written-requires c = c.requires
 
 pub returns : goal.returns
 returns c =
-    let a = ?before in
+    let a = c.args in
     let here = result_at a.m a.pc in
     let after = register_at a.m (suc a.pc) a.to in
     record { raised = c.written.ensures.raised (here ⊆ after) (rw c.result-value.ensures.value (gives_mask here after (claim_in a.w.now))) }

@@ -10,16 +10,17 @@ use Rattle.transfer.proofs.Replaced.{written_meanwhile}
 use Rattle.transfer.proofs.write.written.Goals as goal
 
 pub returns : goal.returns
-returns c f gives formed lm lp la =
-    let a = ?before in
-    let p = program_in a.t.now in
-    let own = register_at a.m a.pc a.a in
-    let inside = own_inside p formed own (lm, omega arith, la) in
-    let first = replaced a.w.now (place_of own) a.value.bits c.put-arg-1.given.0.1 inside in
-    let last = replaced c.onward-new.new.1.0 (place_of own) c.register-own.result.bits c.put-arg-2-1.given.0.1 inside in
-    let on = (rw (add-one a.pc) at c.onward-new.ensures.raised) formed lm lp in
+returns c =
     record {
-      raised = written_meanwhile p formed a.m a.pc a.a lm lp la a.value (claim_in a.w.now) _ _ _ f gives
+      raised = λ f gives formed lm lp la.
+          let a = c.args in
+          let p = program_in a.t.now in
+          let own = register_at a.m a.pc a.a in
+          let inside = own_inside p formed own (lm, omega arith, la) in
+          let first = replaced a.w.now (place_of own) a.value.bits c.put-arg-1.given.0.1 inside in
+          let last = replaced c.onward-new.new.w (place_of own) c.register-own.result.bits c.put-arg-2-1.given.0.1 inside in
+          let on = (rw (add-one a.pc) at c.onward-new.ensures.raised) formed lm lp in
+          written_meanwhile p formed a.m a.pc a.a lm lp la a.value (claim_in a.w.now) _ _ _ f gives
           (rw (c.put.ensures.memory, c.register_place-place.ensures.value) first)
           on
           (rw (c.put-2.ensures.memory, c.register_place-place.ensures.value, sym c.register-own.ensures.value) last);

@@ -1,7 +1,6 @@
 -- `wording::put::digits_after` meets its contract. Assumes nothing.
 use mathlib.Core.Path.{ap, ◌∙◌}
 use Rattle.page.specs.Digits.{sixteen}
-use borrow.Author.Rules.{rules}
 use Rattle.wording.proofs.put.digits_after.Goals as goal
 
 pub returns-then-before-mask : goal.returns-then-before-mask

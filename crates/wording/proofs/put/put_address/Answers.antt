@@ -3,7 +3,6 @@ use Rattle.page.proofs.Puts.{put_then, put_as}
 use Rattle.program.specs.Tables.{program_in}
 use Rattle.slots.specs.Layout.{claim_in}
 use Rattle.wording.proofs.Texts.{address_line}
-use borrow.Author.Rules.{rules}
 use Rattle.wording.proofs.put.put_address.Goals as goal
 
 pub returns : goal.returns

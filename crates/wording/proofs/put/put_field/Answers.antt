@@ -1,7 +1,6 @@
 -- `wording::put::put_field` meets its contract. Assumes nothing.
 use mathlib.Core.Path.{sym, ◌∙◌}
 use Rattle.page.proofs.Puts.{put_none}
-use borrow.Author.Rules.{rules}
 use Rattle.wording.proofs.put.put_field.Goals as goal
 
 pub returns-then-has_field : goal.returns-then-has_field

@@ -1,5 +1,4 @@
 -- `wording::put::put_frame` meets its contract. Assumes nothing.
-use borrow.Author.Rules.{rules}
 use Rattle.wording.proofs.put.put_frame.Goals as goal
 
 pub returns-in-Address : goal.returns-in-Address

@@ -1,6 +1,5 @@
 -- `wording::put::put_long` meets its contract. Assumes nothing.
 use Rattle.page.proofs.Puts.{put_then}
-use borrow.Author.Rules.{rules}
 use Rattle.wording.proofs.put.put_long.Goals as goal
 
 pub returns : goal.returns

@@ -1,6 +1,5 @@
 -- `wording::put::put_mask` meets its contract. Assumes nothing.
 use Rattle.page.proofs.Puts.{put_as}
-use borrow.Author.Rules.{rules}
 use Rattle.wording.proofs.put.put_mask.Goals as goal
 
 pub returns : goal.returns

@@ -1,15 +1,12 @@
 -- `wording::put::put_part` meets its contract. The loop's invariant: the rows before the next are put. Assumes nothing.
 use mathlib.Core.Path.{◌≡◌}
 use mathlib.Core.List.{List}
-use Prim.Native.Nat.{ℕ, ◌-◌, ◌≤◌}
+use Prim.Native.Nat.{ℕ}
 use native.Mathlib.Omega.{arith}
-use Rattle.page.specs.Page.{Put}
 use Rattle.page.proofs.Puts.{put_none, put_as, put_length}
-use Rattle.program.specs.Lists.{joined}
 use Rattle.program.specs.Tables.{program_in}
 use Rattle.slots.specs.Layout.{claim_in}
 use Rattle.claim.specs.Frames.{Due, outer}
-use Rattle.wording.specs.ClaimText.{frames_text}
 use Rattle.wording.specs.Inside.{row_due}
 use Rattle.wording.proofs.Texts.{frames_more, part_line}
 use Rattle.wording.proofs.put.put_part.Goals as goal

@@ -1,12 +1,10 @@
 -- `wording::put::put_registers` meets its contract. The loop's invariant: the masks of the registers before the
 -- next are put, and the digits of the last one are kept. Assumes nothing.
 use mathlib.Core.Path.{◌≡◌, ap, ◌∙◌}
-use Prim.Native.Nat.{ℕ, ◌-◌, ◌≤◌}
+use Prim.Native.Nat.{ℕ}
 use native.Mathlib.Omega.{arith}
 use Rattle.mask.specs.declared.Mask.{Mask}
 use Rattle.page.specs.Digits.{sixteen}
-use Rattle.page.specs.Packed.{digits_in}
-use Rattle.page.specs.Page.{Put}
 use Rattle.page.proofs.Puts.{put_none, put_as, put_length}
 use Rattle.program.specs.Lists.{tab}
 use Rattle.program.specs.Program.{registers}

@@ -1,19 +1,13 @@
 -- `wording::put::put_registers`: what its loops keep, and what falls.
-use mathlib.Core.Path.{◌≡◌, ap, ◌∙◌}
-use Prim.Native.Nat.{ℕ, ◌-◌, ◌≤◌}
-use native.Mathlib.Omega.{arith}
-use Rattle.mask.specs.declared.Mask.{Mask}
+use mathlib.Core.Path.{◌≡◌}
+use Prim.Native.Nat.{◌-◌, ◌≤◌}
 use Rattle.page.specs.Digits.{sixteen}
 use Rattle.page.specs.Packed.{digits_in}
 use Rattle.page.specs.Page.{Put}
-use Rattle.page.proofs.Puts.{put_none, put_as, put_length}
 use Rattle.program.specs.Lists.{tab}
-use Rattle.program.specs.Program.{registers}
-use Rattle.program.specs.Tables.{program_in}
 use Rattle.flow.specs.Claim.{register_at}
 use Rattle.slots.specs.Layout.{claim_in}
 use Rattle.wording.specs.ClaimText.{masks_text}
-use Rattle.wording.proofs.Texts.{masks_more}
 use Rattle.wording.proofs.put.put_registers.Given as goal
 
 abbrev pub invariant-loop-r : goal.invariant-loop-r

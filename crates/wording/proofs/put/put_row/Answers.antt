@@ -1,9 +1,8 @@
 -- `wording::put::put_row` meets its contract. The loop's invariant: the frames before the next are put. Assumes nothing.
 use mathlib.Core.Path.{◌≡◌, ap}
 use mathlib.Core.List.{List}
-use Prim.Native.Nat.{ℕ, ◌-◌, ◌≤◌}
+use Prim.Native.Nat.{ℕ}
 use native.Mathlib.Omega.{arith}
-use Rattle.page.specs.Page.{Put}
 use Rattle.page.proofs.Puts.{put_none, put_as, put_length}
 use Rattle.program.specs.Lists.{joined}
 use Rattle.program.specs.Tables.{program_in}

@@ -1,16 +1,11 @@
 -- `wording::put::put_row`: what its loops keep, and what falls.
-use mathlib.Core.Path.{◌≡◌, ap}
-use mathlib.Core.List.{List}
-use Prim.Native.Nat.{ℕ, ◌-◌, ◌≤◌}
-use native.Mathlib.Omega.{arith}
+use Prim.Native.Nat.{◌-◌, ◌≤◌}
 use Rattle.page.specs.Page.{Put}
-use Rattle.page.proofs.Puts.{put_none, put_as, put_length}
 use Rattle.program.specs.Lists.{joined}
 use Rattle.program.specs.Tables.{program_in}
 use Rattle.slots.specs.Layout.{claim_in}
-use Rattle.claim.specs.Frames.{Due, inner, frame_at}
+use Rattle.claim.specs.Frames.{frame_at}
 use Rattle.wording.specs.ClaimText.{frames_text}
-use Rattle.wording.proofs.Texts.{frames_more}
 use Rattle.wording.proofs.put.put_row.Given as goal
 
 abbrev pub invariant-loop-b : goal.invariant-loop-b

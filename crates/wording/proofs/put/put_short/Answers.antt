@@ -1,6 +1,5 @@
 -- `wording::put::put_short` meets its contract. Assumes nothing.
 use Rattle.page.proofs.Puts.{put_then}
-use borrow.Author.Rules.{rules}
 use Rattle.wording.proofs.put.put_short.Goals as goal
 
 pub returns : goal.returns

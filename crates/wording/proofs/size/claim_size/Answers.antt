@@ -34,7 +34,7 @@ overflow_add-result-4 c =
     )
 
 pub returns : goal.returns
-returns c cl = record {
-  value = parts_size cl (program_in c.args.t.now) _ _ _ _ _ (c.part_size-addresses.ensures.value cl) (c.part_size-fields.ensures.value cl)
+returns c = record {
+  value = λ cl. parts_size cl (program_in c.args.t.now) _ _ _ _ _ (c.part_size-addresses.ensures.value cl) (c.part_size-fields.ensures.value cl)
       (c.part_size-statics.ensures.value cl) (c.part_size-returned.ensures.value cl) (c.part_size-leaving.ensures.value cl);
 }

@@ -34,15 +34,10 @@ returns-then-present c =
     let a = c.args in
     let p = program_in a.t.now in
     let present = sym c.present.ensures.value ∙ c.if-present.true in
+    let few = frame_few p a.k a.a a.b in
     record {
-      value = (let few = frame_few p a.k a.a a.b in (
-        λ cl. rw c.frame_of-f.ensures.value (frame_size_lem cl p a.k a.a a.b present),
-        rw c.frame_of-f.ensures.value (omega (arith, few.0, few.1)),
-      )).0;
-      range = (let few = frame_few p a.k a.a a.b in (
-        λ cl. rw c.frame_of-f.ensures.value (frame_size_lem cl p a.k a.a a.b present),
-        rw c.frame_of-f.ensures.value (omega (arith, few.0, few.1)),
-      )).1;
+      value = λ cl. rw c.frame_of-f.ensures.value (frame_size_lem cl p a.k a.a a.b present);
+      range = rw c.frame_of-f.ensures.value (omega (arith, few.0, few.1));
     }
 
 pub returns : goal.returns

@@ -1,14 +1,9 @@
 -- `wording::size::part_size` meets its contract. The loop's invariant: the size is that of the rows before the next, which
 -- are at most 131,296 bytes each. Assumes nothing.
 use mathlib.Core.Path.{◌≡◌, ◌∙◌}
-use Prim.Native.Nat.{◌-◌, ◌*◌, ◌≤◌}
 use native.Mathlib.Omega.{arith}
-use lib.ListN.{length}
-use Rattle.program.specs.Lists.{joined}
 use Rattle.program.specs.Tables.{program_in}
-use Rattle.flow.specs.Claim.{Claim}
 use Rattle.claim.specs.Frames.{outer}
-use Rattle.wording.specs.ClaimText.{frames_text}
 use Rattle.wording.specs.Inside.{row_due}
 use Rattle.wording.proofs.Lengths.{size_more, outer_few, part_rows}
 use Rattle.wording.proofs.size.part_size.Goals as goal
@@ -39,13 +34,8 @@ pub returns : goal.returns
 returns c =
     let x = c.args in
     let p = program_in x.t.now in
+    let all : c.loop-a.a ≡ outer p x.k = omega (arith, c.outer-n.ensures.value) in
     record {
-      value = (let all : c.loop-a.a ≡ outer p x.k = omega (arith, c.outer-n.ensures.value) in (
-        λ cl. c.loop-a.invariant.2 cl ∙ part_rows cl p x.k c.loop-a.a all,
-        omega (arith, c.loop-a.invariant.1, all, outer_few x.t.now x.k),
-      )).0;
-      range = (let all : c.loop-a.a ≡ outer p x.k = omega (arith, c.outer-n.ensures.value) in (
-        λ cl. c.loop-a.invariant.2 cl ∙ part_rows cl p x.k c.loop-a.a all,
-        omega (arith, c.loop-a.invariant.1, all, outer_few x.t.now x.k),
-      )).1;
+      value = λ cl. c.loop-a.invariant.2 cl ∙ part_rows cl p x.k c.loop-a.a all;
+      range = omega (arith, c.loop-a.invariant.1, all, outer_few x.t.now x.k);
     }

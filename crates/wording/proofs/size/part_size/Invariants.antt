@@ -1,15 +1,12 @@
 -- `wording::size::part_size`: what its loops keep, and what falls.
-use mathlib.Core.Path.{◌≡◌, ◌∙◌}
+use mathlib.Core.Path.{◌≡◌}
 use Prim.Native.Nat.{◌-◌, ◌*◌, ◌≤◌}
-use native.Mathlib.Omega.{arith}
 use lib.ListN.{length}
 use Rattle.program.specs.Lists.{joined}
 use Rattle.program.specs.Tables.{program_in}
 use Rattle.flow.specs.Claim.{Claim}
-use Rattle.claim.specs.Frames.{outer}
 use Rattle.wording.specs.ClaimText.{frames_text}
 use Rattle.wording.specs.Inside.{row_due}
-use Rattle.wording.proofs.Lengths.{size_more, outer_few, part_rows}
 use Rattle.wording.proofs.size.part_size.Given as goal
 
 abbrev pub invariant-loop-a : goal.invariant-loop-a

@@ -2,12 +2,11 @@
 -- are at most 4,103 bytes each. Assumes nothing.
 use mathlib.Core.Path.{◌≡◌, ap, ◌∙◌}
 use mathlib.Core.List.{List}
-use Prim.Native.Nat.{ℕ, ◌-◌, ◌*◌, ◌≤◌}
+use Prim.Native.Nat.{ℕ}
 use native.Mathlib.Omega.{arith}
 use lib.ListN.{length}
 use Rattle.program.specs.Lists.{joined}
 use Rattle.program.specs.Tables.{program_in}
-use Rattle.flow.specs.Claim.{Claim}
 use Rattle.claim.specs.Frames.{Due, inner, frame_at}
 use Rattle.wording.specs.ClaimText.{frames_text}
 use Rattle.wording.proofs.Lengths.{size_more, inner_few}
@@ -40,13 +39,8 @@ pub returns : goal.returns
 returns c =
     let a = c.args in
     let p = program_in a.t.now in
+    let all : c.loop-b.b ≡ inner p a.k a.a = omega (arith, c.inner-n.ensures.value) in
     record {
-      value = (let all : c.loop-b.b ≡ inner p a.k a.a = omega (arith, c.inner-n.ensures.value) in (
-        λ cl. c.loop-b.invariant.2 cl ∙ ap (λ (n : ℕ). length (frames_text cl (joined n (frame_at p a.k a.a)))) all,
-        omega (arith, c.loop-b.invariant.1, all, inner_few a.t.now a.k a.a),
-      )).0;
-      range = (let all : c.loop-b.b ≡ inner p a.k a.a = omega (arith, c.inner-n.ensures.value) in (
-        λ cl. c.loop-b.invariant.2 cl ∙ ap (λ (n : ℕ). length (frames_text cl (joined n (frame_at p a.k a.a)))) all,
-        omega (arith, c.loop-b.invariant.1, all, inner_few a.t.now a.k a.a),
-      )).1;
+      value = λ cl. c.loop-b.invariant.2 cl ∙ ap (λ (n : ℕ). length (frames_text cl (joined n (frame_at p a.k a.a)))) all;
+      range = omega (arith, c.loop-b.invariant.1, all, inner_few a.t.now a.k a.a);
     }

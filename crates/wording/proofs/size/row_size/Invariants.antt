@@ -1,15 +1,12 @@
 -- `wording::size::row_size`: what its loops keep, and what falls.
-use mathlib.Core.Path.{◌≡◌, ap, ◌∙◌}
-use mathlib.Core.List.{List}
-use Prim.Native.Nat.{ℕ, ◌-◌, ◌*◌, ◌≤◌}
-use native.Mathlib.Omega.{arith}
+use mathlib.Core.Path.{◌≡◌}
+use Prim.Native.Nat.{◌-◌, ◌*◌, ◌≤◌}
 use lib.ListN.{length}
 use Rattle.program.specs.Lists.{joined}
 use Rattle.program.specs.Tables.{program_in}
 use Rattle.flow.specs.Claim.{Claim}
-use Rattle.claim.specs.Frames.{Due, inner, frame_at}
+use Rattle.claim.specs.Frames.{frame_at}
 use Rattle.wording.specs.ClaimText.{frames_text}
-use Rattle.wording.proofs.Lengths.{size_more, inner_few}
 use Rattle.wording.proofs.size.row_size.Given as goal
 
 abbrev pub invariant-loop-b : goal.invariant-loop-b

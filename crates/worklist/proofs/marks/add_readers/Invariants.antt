@@ -1,6 +1,5 @@
 -- `worklist::marks::add_readers`: what its loops keep, and what falls.
 use Prim.Native.Nat.{◌-◌, ◌≤◌}
-use native.Mathlib.Omega.{arith}
 use Rattle.worklist.proofs.marks.add_readers.Given as goal
 
 abbrev pub invariant-loop-m : goal.invariant-loop-m

@@ -1,6 +1,5 @@
 -- `worklist::marks::list_method`: what its loops keep, and what falls.
 use Prim.Native.Nat.{◌-◌, ◌≤◌}
-use native.Mathlib.Omega.{arith}
 use Rattle.worklist.proofs.marks.list_method.Given as goal
 
 abbrev pub invariant-loop-pc : goal.invariant-loop-pc

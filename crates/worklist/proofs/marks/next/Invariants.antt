@@ -1,6 +1,5 @@
 -- `worklist::marks::next`: what its loops keep, and what falls.
 use Prim.Native.Nat.{◌≤◌}
-use native.Mathlib.Omega.{arith}
 use Rattle.worklist.proofs.marks.next.Given as goal
 
 abbrev pub invariant-loop-left : goal.invariant-loop-left
