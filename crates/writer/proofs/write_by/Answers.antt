@@ -26,5 +26,5 @@ returns c =
     let answer = c.fill-read.ensures.answer in
     let tables = c.write_tables.ensures in
     let done = taken_answered a.program.now a.memory.now c.fill-read.result answer.0 answer.1
-        (omega (arith, number)) _ _ c.fill-read.ensures.memory _ _ (tables.answer, tables.memory) in
+    (omega (arith, number)) _ _ c.fill-read.ensures.memory _ _ (tables.answer, tables.memory) in
     record { answer = done.0; memory = done.1 }
