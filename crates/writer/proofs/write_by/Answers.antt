@@ -1,7 +1,6 @@
 -- `writer::write_by` meets its contract. Assumes nothing.
 use native.Mathlib.Omega.{arith}
 use Rattle.writer.proofs.Answers.{refused_answered, tables_formed, taken_answered}
-use borrow.Author.Rules.{rules}
 use Rattle.writer.proofs.write_by.Goals as goal
 
 pub returns-then-number-ne0 : goal.returns-then-number-ne0
