@@ -2,7 +2,7 @@
 // guide the order of the work; no promise says anything of them. That every rule holds at the end is tested by crate rules.
 #![tactic(auto)]
 
-mod marks; // marks.rt: the addresses that wait, and the readers of slots
+mod waits; // waits.rt: the addresses that wait, and the readers of slots
 
 ghost use Rattle.std.specs.Prelude.{◌≡◌, ◌<◌};
 ghost use Rattle.program.specs.Program.{method_count, code_length};
@@ -39,19 +39,19 @@ fn mark_dependents(
     pc: usize,
     news: u64,
 ) {
-    marks::add(&mut *waiting, m, news & 4294967295);
+    waits::add(&mut *waiting, m, news & 4294967295);
     if news >> 32 == 0 {
         return;
     }
-    marks::add_entries(&mut *waiting, news >> 32 & 65535);
+    waits::add_entries(&mut *waiting, news >> 32 & 65535);
     if news >> 48 & 1 == 1 {
-        marks::add_readers(&mut *waiting, readers, 32);
+        waits::add_readers(&mut *waiting, readers, 32);
     }
     if news >> 49 & 1 == 1 {
-        marks::add_readers(
+        waits::add_readers(
             &mut *waiting,
             readers,
-            marks::stores(program::instruction_at(t, m, pc)),
+            waits::stores(program::instruction_at(t, m, pc)),
         );
     }
 }
@@ -72,12 +72,12 @@ fn turn(
         let d = claim_in w.new in
         (Formed p → Upward p c d) }
 {
-    let set = marks::at(waiting, m);
+    let set = waits::at(waiting, m);
     if set == 0 {
-        return marks::next(waiting, m);
+        return waits::next(waiting, m);
     }
-    let pc = marks::lowest(set);
-    marks::remove(&mut *waiting, m, marks::bit(pc));
+    let pc = waits::lowest(set);
+    waits::remove(&mut *waiting, m, waits::bit(pc));
     let news = visit(t, w, s, m, pc);
     mark_dependents(t, waiting, readers, m, pc, news);
     m
@@ -126,7 +126,7 @@ fn go_on(
         (Formed p → m < method_count p → pc < code_length p m → Risen p m pc c d) }
 {
     transfer::raise_at(t, &mut *w, s, m, pc);
-    marks::add_all(t, &mut *waiting);
+    waits::add_all(t, &mut *waiting);
     work(t, w, s, waiting, readers, 1000000)
 }
 
@@ -176,7 +176,7 @@ pub fn fill(t: &[u64; 768], w: &mut [u64; 9712])
     let mut s = [0u64; 80];
     sets::fill(t, &mut s);
     let mut readers = [0u64; 528];
-    marks::list_readers(t, &mut readers);
+    waits::list_readers(t, &mut readers);
     let mut waiting = [0u64; 16];
     fill_by(t, w, &s, &mut waiting, &readers)
 }

@@ -19,9 +19,6 @@ shape_of-memory c = c.check_tables.auto.memory
 pub returns : goal.returns
 returns c =
     let a = c.args in
-    record {
-      verdict = (claimed_checked a.program.now a.claim.now a.memory.now c.fill-read.result c.fill-read.ensures.answer.0 c.fill-read.ensures.answer.1
-          (omega (arith, c.number_of-number.ensures.value)) _ _ c.fill-read.ensures.memory _ _ (c.check_tables.ensures.verdict, c.check_tables.ensures.memory)).0;
-      memory = (claimed_checked a.program.now a.claim.now a.memory.now c.fill-read.result c.fill-read.ensures.answer.0 c.fill-read.ensures.answer.1
-          (omega (arith, c.number_of-number.ensures.value)) _ _ c.fill-read.ensures.memory _ _ (c.check_tables.ensures.verdict, c.check_tables.ensures.memory)).1;
-    }
+    let told = claimed_checked a.program.now a.claim.now a.memory.now c.fill-read.result c.fill-read.ensures.answer.0 c.fill-read.ensures.answer.1
+    (omega (arith, c.number_of-number.ensures.value)) _ _ c.fill-read.ensures.memory _ _ (c.check_tables.ensures.verdict, c.check_tables.ensures.memory) in
+    record { verdict = told.0; memory = told.1 }

@@ -20,9 +20,6 @@ shape_of-memory c = c.judge.auto.memory
 pub returns : goal.returns
 returns c =
     let a = c.args in
-    record {
-      verdict = (judged_claimed (program_in a.t.now) a.claim.now a.memory.now c.fill-read.result c.fill-read.ensures.answer.0 c.fill-read.ensures.answer.1
-          (omega (arith, c.number_of-number.ensures.value)) _ _ c.fill-read.ensures.memory _ _ (c.judge.ensures.verdict, c.judge.ensures.memory)).0;
-      memory = (judged_claimed (program_in a.t.now) a.claim.now a.memory.now c.fill-read.result c.fill-read.ensures.answer.0 c.fill-read.ensures.answer.1
-          (omega (arith, c.number_of-number.ensures.value)) _ _ c.fill-read.ensures.memory _ _ (c.judge.ensures.verdict, c.judge.ensures.memory)).1;
-    }
+    let told = judged_claimed (program_in a.t.now) a.claim.now a.memory.now c.fill-read.result c.fill-read.ensures.answer.0 c.fill-read.ensures.answer.1
+    (omega (arith, c.number_of-number.ensures.value)) _ _ c.fill-read.ensures.memory _ _ (c.judge.ensures.verdict, c.judge.ensures.memory) in
+    record { verdict = told.0; memory = told.1 }

@@ -17,8 +17,8 @@ returns-then-number_of-eq0 c =
     let p = program_in a.t.now in
     record {
       answer = c.take-answer.ensures.answer;
-      memory = let told = c.take-answer.ensures in masks_read (read_claim p a.text.now) (numbered p a.text.now) _ no_masks told.masks
-          (sym told.answer.0 ∙ sym c.number_of.ensures.value ∙ c.if-number_of-eq0.true);
+      memory = masks_read (read_claim p a.text.now) (numbered p a.text.now) _ no_masks c.take-answer.ensures.masks
+          (sym c.take-answer.ensures.answer.0 ∙ sym c.number_of.ensures.value ∙ c.if-number_of-eq0.true);
     }
 
 pub returns : goal.returns
@@ -27,6 +27,6 @@ returns c =
     let a = c.args in
     record {
       answer = c.take-answer.ensures.answer;
-      memory = let told = c.take-answer.ensures in masks_refused (read_claim (program_in a.t.now) a.text.now) no_masks
-          (λ z. c.if-number_of-eq0.false (c.number_of.ensures.value ∙ told.answer.0 ∙ z));
+      memory = masks_refused (read_claim (program_in a.t.now) a.text.now) no_masks
+          (λ z. c.if-number_of-eq0.false (c.number_of.ensures.value ∙ c.take-answer.ensures.answer.0 ∙ z));
     }

@@ -16,8 +16,8 @@ returns-then-number_of-ne0 c =
     let a = c.args in
     record {
       answer = c.take-answer.ensures.answer;
-      memory = let told = c.take-answer.ensures in masks_refused (read_claim (program_in a.t.now) a.text.now) a.w.now
-          (λ z. c.if-number_of-ne0.true (c.number_of.ensures.value ∙ told.answer.0 ∙ z));
+      memory = masks_refused (read_claim (program_in a.t.now) a.text.now) a.w.now
+          (λ z. c.if-number_of-ne0.true (c.number_of.ensures.value ∙ c.take-answer.ensures.answer.0 ∙ z));
     }
 
 pub returns : goal.returns
@@ -26,6 +26,6 @@ returns c =
     let p = program_in a.t.now in
     record {
       answer = c.take-answer.ensures.answer;
-      memory = let told = c.take-answer.ensures in masks_read (read_claim p a.text.now) (numbered p a.text.now) _ a.w.now told.masks
-          (sym told.answer.0 ∙ sym c.number_of.ensures.value ∙ c.if-number_of-ne0.false);
+      memory = masks_read (read_claim p a.text.now) (numbered p a.text.now) _ a.w.now c.take-answer.ensures.masks
+          (sym c.take-answer.ensures.answer.0 ∙ sym c.number_of.ensures.value ∙ c.if-number_of-ne0.false);
     }

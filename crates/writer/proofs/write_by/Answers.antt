@@ -1,7 +1,6 @@
 -- `writer::write_by` meets its contract. Assumes nothing.
 use native.Mathlib.Omega.{arith}
 use Rattle.writer.proofs.Answers.{refused_answered, tables_formed, taken_answered}
-use borrow.Author.Rules.{rules}
 use Rattle.writer.proofs.write_by.Goals as goal
 
 pub returns-then-number-ne0 : goal.returns-then-number-ne0
@@ -26,5 +25,5 @@ returns c =
     let answer = c.fill-read.ensures.answer in
     let tables = c.write_tables.ensures in
     let done = taken_answered a.program.now a.memory.now c.fill-read.result answer.0 answer.1
-        (omega (arith, number)) _ _ c.fill-read.ensures.memory _ _ (tables.answer, tables.memory) in
+    (omega (arith, number)) _ _ c.fill-read.ensures.memory _ _ (tables.answer, tables.memory) in
     record { answer = done.0; memory = done.1 }

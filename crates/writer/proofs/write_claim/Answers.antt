@@ -2,7 +2,6 @@
 use mathlib.Core.Path.{ap}
 use Rattle.output.specs.Numbers.{number_of, values_of}
 use Rattle.writer.proofs.Text.{least_for}
-use borrow.Author.Rules.{rules}
 use Rattle.writer.proofs.write_claim.Goals as goal
 
 pub returns : goal.returns

@@ -2,7 +2,6 @@
 use Rattle.page.proofs.Puts.{whole, put_as}
 use Rattle.program.specs.Tables.{program_in}
 use Rattle.writer.proofs.Text.{text_is}
-use borrow.Author.Rules.{rules}
 use Rattle.writer.proofs.write_least.Goals as goal
 
 pub returns : goal.returns

@@ -6,7 +6,6 @@ use Rattle.slots.specs.Layout.{claim_in}
 use Rattle.fixpoint.specs.LeastOf.{least_words}
 use Rattle.writer.proofs.Answers.{short_done, written_done}
 use Rattle.writer.proofs.Text.{none_are}
-use borrow.Author.Rules.{rules}
 use Rattle.writer.proofs.write_tables.Goals as goal
 
 pub returns-then-memory-n : goal.returns-then-memory-n

@@ -19,8 +19,9 @@ returns-then-present c =
     }
 
 pub returns : goal.returns
-returns c = record {
-  place = let a = c.args in c.requires;
-  progress = let a = c.args in sym (frame_none (program_in a.t.now) a.k a.a a.b c.present.result
-      c.present.ensures.value (progress_of a.text.now a.from a.w.now) c.if-present.false);
-}
+returns c = let a = c.args in
+    record {
+      place = c.requires;
+      progress = sym (frame_none (program_in a.t.now) a.k a.a a.b c.present.result
+          c.present.ensures.value (progress_of a.text.now a.from a.w.now) c.if-present.false);
+    }

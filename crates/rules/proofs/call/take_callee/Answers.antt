@@ -21,10 +21,11 @@ returns-then-subset c =
     let cl = claim_in a.w.now in
     let r = c.leading-receivers.result in
     let bits = receivers_are p a.mask a.name a.count a.q (classes_limit a.t.now) (methods_limit a.t.now) a.s.now c.requires.1 r c.leading-receivers.ensures.bits in
+    let none = sym c.subset.ensures.value ∙ c.if-subset.true in
     record {
-      given = let none = sym c.subset.ensures.value ∙ c.if-subset.true in none_given p cl a.m a.pc a.mask a.name a.count a.q r bits none a.register a.prior.given;
-      returned = let none = sym c.subset.ensures.value ∙ c.if-subset.true in none_returned p cl a.m a.pc a.mask a.name a.count a.q r bits none a.prior.returned;
-      raised = let none = sym c.subset.ensures.value ∙ c.if-subset.true in (λ k. none_leaves p cl a.m a.pc a.mask a.name a.count a.q r bits none k (has a.prior.raised k));
+      given = none_given p cl a.m a.pc a.mask a.name a.count a.q r bits none a.register a.prior.given;
+      returned = none_returned p cl a.m a.pc a.mask a.name a.count a.q r bits none a.prior.returned;
+      raised = (λ k. none_leaves p cl a.m a.pc a.mask a.name a.count a.q r bits none k (has a.prior.raised k));
     }
 
 pub returns : goal.returns
@@ -43,20 +44,15 @@ returns c =
     c.arguments-arguments.result
     c.subset-2.ensures.value
     c.arguments-arguments.ensures.value in
+    let returned : c.subset-returned.result ≡ subset (cl (returned_by a.q)) (cl (result_at a.m (suc a.pc))) =
+    c.subset-returned.ensures.value
+    ∙ ap (λ (i : Mask). subset i c.result.result) c.returned.ensures.value
+    ∙ ap (subset (cl (returned_by a.q))) (c.result.ensures.value ∙ ap (λ (i : ℕ). cl (result_at a.m i)) (add-one a.pc)) in
     record {
-      given = let returned : c.subset-returned.result ≡ subset (cl (returned_by a.q)) (cl (result_at a.m (suc a.pc))) =
-          c.subset-returned.ensures.value
-          ∙ ap (λ (i : Mask). subset i c.result.result) c.returned.ensures.value
-          ∙ ap (subset (cl (returned_by a.q))) (c.result.ensures.value ∙ ap (λ (i : ℕ). cl (result_at a.m i)) (add-one a.pc)) in c.both-2.ensures.value ∙ ap (◌&&◌ a.prior.given) (c.both.ensures.value ∙ given);
-      returned = let returned : c.subset-returned.result ≡ subset (cl (returned_by a.q)) (cl (result_at a.m (suc a.pc))) =
-          c.subset-returned.ensures.value
-          ∙ ap (λ (i : Mask). subset i c.result.result) c.returned.ensures.value
-          ∙ ap (subset (cl (returned_by a.q))) (c.result.ensures.value ∙ ap (λ (i : ℕ). cl (result_at a.m i)) (add-one a.pc)) in c.both-3.ensures.value
+      given = c.both-2.ensures.value ∙ ap (◌&&◌ a.prior.given) (c.both.ensures.value ∙ given);
+      returned = c.both-3.ensures.value
           ∙ ap (◌&&◌ a.prior.returned) (returned ∙ one_returned p cl a.m a.pc a.mask a.name a.count a.q r bits one);
-      raised = let returned : c.subset-returned.result ≡ subset (cl (returned_by a.q)) (cl (result_at a.m (suc a.pc))) =
-          c.subset-returned.ensures.value
-          ∙ ap (λ (i : Mask). subset i c.result.result) c.returned.ensures.value
-          ∙ ap (subset (cl (returned_by a.q))) (c.result.ensures.value ∙ ap (λ (i : ℕ). cl (result_at a.m i)) (add-one a.pc)) in (λ k. c.join.ensures.bits k
+      raised = (λ k. c.join.ensures.bits k
           ∙ ap (◌||◌ (has a.prior.raised k))
           (ap (λ (m : Mask). has m k) c.leaving.ensures.value
           ∙ one_leaves p cl a.m a.pc a.mask a.name a.count a.q r bits one k));

@@ -40,8 +40,9 @@ returns c =
     let a = c.args in
     let p = program_in a.t.now in
     let cl = claim_in a.w.now in
+    let all : c.loop-q.q ≡ method_count p = omega (arith, c.method_count-n.ensures.value) in
     record {
-      given = let all : c.loop-q.q ≡ method_count p = omega (arith, c.method_count-n.ensures.value) in c.loop-q.invariant.1 ∙ ap (λ (n : ℕ). every n (callee_given p cl a.m a.pc a.mask a.name a.count a.register)) all;
-      returned = let all : c.loop-q.q ≡ method_count p = omega (arith, c.method_count-n.ensures.value) in c.loop-q.invariant.2 ∙ ap (λ (n : ℕ). every n (callee_returned p cl a.m a.pc a.mask a.name a.count)) all;
-      raised = let all : c.loop-q.q ≡ method_count p = omega (arith, c.method_count-n.ensures.value) in (λ k. c.loop-q.invariant.3 k ∙ ap (λ (n : ℕ). some n (leaves_callee p cl a.mask a.name a.count k)) all);
+      given = c.loop-q.invariant.1 ∙ ap (λ (n : ℕ). every n (callee_given p cl a.m a.pc a.mask a.name a.count a.register)) all;
+      returned = c.loop-q.invariant.2 ∙ ap (λ (n : ℕ). every n (callee_returned p cl a.m a.pc a.mask a.name a.count)) all;
+      raised = (λ k. c.loop-q.invariant.3 k ∙ ap (λ (n : ℕ). some n (leaves_callee p cl a.mask a.name a.count k)) all);
     }

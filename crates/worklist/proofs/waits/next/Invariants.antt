@@ -1,6 +1,6 @@
--- `worklist::marks::next`: what its loops keep, and what falls.
+-- `worklist::waits::next`: what its loops keep, and what falls.
 use Prim.Native.Nat.{◌≤◌}
-use Rattle.worklist.proofs.marks.next.Given as goal
+use Rattle.worklist.proofs.waits.next.Given as goal
 
 abbrev pub invariant-loop-left : goal.invariant-loop-left
 invariant-loop-left l = l.left ≤ 16

@@ -1,6 +1,6 @@
--- `worklist::marks::list_method`: what its loops keep, and what falls.
+-- `worklist::waits::list_method`: what its loops keep, and what falls.
 use Prim.Native.Nat.{◌-◌, ◌≤◌}
-use Rattle.worklist.proofs.marks.list_method.Given as goal
+use Rattle.worklist.proofs.waits.list_method.Given as goal
 
 abbrev pub invariant-loop-pc : goal.invariant-loop-pc
 invariant-loop-pc l = l.pc ≤ l.n

@@ -1,6 +1,6 @@
--- `worklist::marks::list_readers`: what its loops keep, and what falls.
+-- `worklist::waits::list_readers`: what its loops keep, and what falls.
 use Prim.Native.Nat.{◌-◌, ◌≤◌}
-use Rattle.worklist.proofs.marks.list_readers.Given as goal
+use Rattle.worklist.proofs.waits.list_readers.Given as goal
 
 abbrev pub invariant-loop-m : goal.invariant-loop-m
 invariant-loop-m l = l.m ≤ l.n

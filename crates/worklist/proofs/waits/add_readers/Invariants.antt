@@ -1,6 +1,6 @@
--- `worklist::marks::add_all`: what its loops keep, and what falls.
+-- `worklist::waits::add_readers`: what its loops keep, and what falls.
 use Prim.Native.Nat.{◌-◌, ◌≤◌}
-use Rattle.worklist.proofs.marks.add_all.Given as goal
+use Rattle.worklist.proofs.waits.add_readers.Given as goal
 
 abbrev pub invariant-loop-m : goal.invariant-loop-m
 invariant-loop-m l = l.m ≤ 16
