@@ -1,7 +1,7 @@
 -- What `step` answers and leaves in the lent slices is what becomes of the text. Assumes nothing.
-use mathlib.Core.Path.{◌≡◌, refl, sym, ap, ◌∙◌}
+use mathlib.Core.Path.{◌≡◌, refl, ap}
 use mathlib.Core.Bool.{Bool, true, false}
-use mathlib.Core.List.{List, [], ◌∷◌}
+use mathlib.Core.List.{List}
 use Prim.Native.Nat.{ℕ, ◌≤◌, ◌<◌, min}
 use native.Mathlib.Omega.{arith}
 use lib.ListN.{length}
@@ -19,16 +19,15 @@ use Rattle.turn.specs.declared.Status.{Status}
 use Rattle.turn.specs.declared.Status.TheVariants.{Running, Raised, Done, Uncaught, Failed}
 use Rattle.turn.specs.Stop.{halt_number}
 use Rattle.bounded.specs.declared.Outcome.{Outcome}
-use Rattle.bounded.specs.Bounded.{Stopped, steps, bounded}
-use Rattle.bounded.specs.Step.{Stepping, stepping_number, stepping_values, stopped_values, number_of, values_of, pending_values, pending_in}
+use Rattle.bounded.specs.Bounded.{bounded}
+use Rattle.bounded.specs.Step.{Stepping, stepping_number, stepping_values, number_of, values_of, pending_values, pending_in}
 use Rattle.bounded.specs.Lent.{enough, lending, frames_left, objects_left, statics_left}
 use Rattle.store.specs.Store.{filled}
 use Rattle.laid.proofs.Start.{frames_start, objects_start, statics_start}
 use Rattle.shift.specs.declared.Run.{Run}
-use Rattle.drive.specs.Models.{Lent, lent, looped}
+use Rattle.drive.specs.Models.{Lent, looped}
 use Rattle.lies.specs.Lies.{status_of, Roomy, Lies}
-use Rattle.rounds.specs.Rounds.{run_done}
-use Rattle.begun.specs.Begun.{start_run, refusal, started, pending_of, ended_by}
+use Rattle.begun.specs.Begun.{start_run, started, pending_of}
 use Rattle.begun.proofs.Told.{ended_refused, ended_short, ended_ran}
 use Rattle.ran.specs.Ran.{Finished}
 use Rattle.ran.proofs.Run.{ran}
