@@ -1,6 +1,6 @@
 -- When a state lies in the lent slices and a tally. Nothing here needs to be believed to read a promise of the stepper.
 -- Definitions only.
-use Rattle.std.specs.Prelude.{◌≡◌, List, [], ◌∷◌, ℕ, ◌≤◌, ◌<◌, length}
+use Rattle.std.specs.Prelude.{◌≡◌, List, [], ◌∷◌, ◌≤◌, ◌<◌, length}
 use Rattle.program.specs.Lists.{Every}
 use Rattle.machine.specs.State.{Frame, Status, running, raised, done, uncaught, failed, State}
 use Rattle.turn.specs.declared.Status as code

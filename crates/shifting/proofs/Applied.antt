@@ -11,7 +11,7 @@ use borrow.Author.Tests.{eqb-true}
 use Rattle.text.proofs.Cases.{by_test, never}
 use Rattle.instruction.specs.declared.Instruction.{Instruction}
 use Rattle.instruction.specs.Word.{instruction_of}
-use Rattle.program.specs.Program.{Program, registers, code_length}
+use Rattle.program.specs.Program.{Program, code_length}
 use Rattle.program.specs.Tables.{program_in}
 use Rattle.reader.specs.Formed.{Formed}
 use Rattle.machine.specs.declared.Effect.{Effect}

@@ -67,9 +67,9 @@ module _ (s : State) (before now : Lent) (roomy : Roomy before) (h : At) (lies :
         (part_read method_of (frames_of s before.frames) (length rest) 4294967295 absent_frame (omega (arith, size, few, roomy.frames))
         ∙ ap method_of (top_read s before.frames absent_frame f rest e few roomy.frames))
 
-    pub address_in : address_in now h ≡ f.address
+    pub address_in_lem : address_in now h ≡ f.address
     unfolding look_of
-    address_in =
+    address_in_lem =
         let size : length (frames_of s before.frames) ≡ length before.frames = frames_length s before.frames in
         let few : length (f ∷ rest) ≤ 32 = shallow (f ∷ rest) e in
         rw (lies.frames, top_of_lem h.run.tally.depth (length rest) (deep (f ∷ rest) e))
@@ -102,7 +102,7 @@ module _ (s : State) (before now : Lent) (roomy : Roomy before) (h : At) (lies :
       ∙ ap address_of (below_read s before.frames absent_frame f g rest e few roomy.frames))
 
   -- the one in the register, and the pending one
-  pub class_in : (v : machine.Value) → value_in now h ≡ cell_of v → h.run.tally.status ≡ Running → Known (length s.objects) v
+  pub class_in_lem : (v : machine.Value) → value_in now h ≡ cell_of v → h.run.tally.status ≡ Running → Known (length s.objects) v
       → class_in now h ≡ state.class_of s v
   unfolding look_of
   class_in_lem v e r k = rw (r, e) (value_class roomy lies v k)

@@ -34,7 +34,7 @@ use Rattle.shift.specs.declared.Stop.TheVariants as stop
 use Rattle.shift.specs.Places.{top_of}
 use Rattle.shift.specs.Shift.{with_status, only, one_more, grown_by, made_by, raised_new_by}
 use Rattle.drive.specs.Models.{Lent}
-use Rattle.turns.specs.Turns.{popped, resumed, moved, wrote, entered}
+use Rattle.turns.specs.Turns.{resumed, moved, wrote, entered}
 use Rattle.lies.specs.Lies.{status_of, Waiting}
 use Rattle.shifting.specs.Shifting.{Shifted, written, frames_by, Topped}
 use Rattle.shifting.proofs.Looked.{top_of_lem}

@@ -27,13 +27,13 @@ use Rattle.shifting.proofs.Written.{none_passed, nothing_written}
 -- ---- the slices of a state
 
 module _ (s : State) (before now : Lent) (k : Run) (roomy : Roomy before) (lies : Lies s before k.tally now) where
-  pub frames_end : length now.frames ≤ nowhere
-  frames_end =
+  pub frames_end_lem : length now.frames ≤ nowhere
+  frames_end_lem =
       let size : length now.frames ≡ length before.frames = ap length lies.frames ∙ frames_length s before.frames in
       omega (arith, size, roomy.frames_end)
 
-  pub objects_end : length now.objects ≤ nowhere
-  objects_end =
+  pub objects_end_lem : length now.objects ≤ nowhere
+  objects_end_lem =
       let size : length now.objects ≡ length before.objects = ap length lies.objects ∙ objects_length s before.objects in
       omega (arith, size, roomy.objects_end)
 

@@ -1,5 +1,3 @@
--- What the proofs of the stepper's functions use.
-pub mod Answers
+-- What `step` answers, and that the start of a run keeps the lent slices' lengths.
 pub mod Kept
-pub mod Said
-pub mod WalkStart
+pub mod Answers

@@ -13,6 +13,7 @@ use cells::{Frame, Object, Value};
 use shift::Run;
 
 // Makes lent slices zero as far as a beginning says, and makes its run.
+#[tactic(auto, unfolding(crate::specs::Start::start_done))]
 fn start(
     t: &[u64; 768],
     frames: &mut [Frame],

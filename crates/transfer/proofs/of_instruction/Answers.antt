@@ -24,8 +24,7 @@ pub returns-in-Const : goal.returns-in-Const
 returns-in-Const c =
     record {
       raised = λ made.
-          let fits = c.in-Const.known_told-in-Const-1-own.given.1.0.1 in
-          let written = rw (to_z-of_z w32 c.in-Const.value (record { sfits = fits })) at c.constant.ensures.raised in
+          let written = rw (to_z-of_z w32 c.in-Const.value (record { sfits = omega arith })) at c.constant.ensures.raised in
           rw c.in-Const.is (λ r. goes_on_lem r refl written r.names);
     }
 

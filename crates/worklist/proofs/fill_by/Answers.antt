@@ -30,9 +30,6 @@ returns-then-broken-eq-NO_RULE c =
           };
     }
 
-pub go_on-requires : goal.go_on-requires
-go_on-requires c = c.requires
-
 pub loop-left-preserved : goal.loop-left-preserved
 loop-left-preserved c =
     let p = program_in c.args.t.now in

@@ -3,9 +3,6 @@ use Rattle.program.specs.Tables.{program_in}
 use Rattle.fixpoint.proofs.Rises.{raised_risen, risen_then}
 use Rattle.worklist.proofs.go_on.Goals as goal
 
-pub work-requires : goal.work-requires
-work-requires c = c.requires
-
 pub returns : goal.returns
 returns c =
     record {

@@ -6,9 +6,6 @@ use Rattle.worklist.proofs.work.Goals as goal
 pub loop-left-init : goal.loop-left-init
 loop-left-init c = λ formed. upward_same _ _
 
-pub turn-m-requires : goal.turn-m-requires
-turn-m-requires c = c.requires
-
 pub returns-then-m-gt15 : goal.returns-then-m-gt15
 returns-then-m-gt15 c =
     record {

@@ -17,17 +17,17 @@ pub loop-i-preserved : goal.loop-i-preserved
 loop-i-preserved c =
     let args = c.args in (
       omega arith,
-      one_more_lem 17 (objects_word args.t2) (object_word_in (get_or args.t2 c.loop-i.i absent_object)) args.ws.now c.loop-i.ws c.put_object.new.0 c.loop-i.i
-          (object_more args.t2 c.loop-i.i) c.put_object.ensures.memory c.loop-i.invariant.1,
+      one_more_lem 17 (objects_word args.os) (object_word_in (get_or args.os c.loop-i.i absent_object)) args.ws.now c.loop-i.ws c.put_object.new.ws c.loop-i.i
+          (object_more args.os c.loop-i.i) c.put_object.ensures.memory c.loop-i.invariant.1,
     )
 
 pub shape_of-ws : goal.shape_of-ws
 shape_of-ws c =
     let args = c.args in
-    ap length c.loop-i.invariant.1 ∙ length_put (objects_word args.t2) args.ws.now 0 (17 * c.loop-i.i)
+    ap length c.loop-i.invariant.1 ∙ length_put (objects_word args.os) args.ws.now 0 (17 * c.loop-i.i)
 
 pub returns : goal.returns
 returns c =
     let args = c.args in
     let e : 17 * c.loop-i.i ≡ 4352 = omega arith in
-    record { memory = c.loop-i.invariant.1 ∙ ap (λ (n : ℕ). put n (objects_word args.t2) args.ws.now 0) e }
+    record { memory = c.loop-i.invariant.1 ∙ ap (λ (n : ℕ). put n (objects_word args.os) args.ws.now 0) e }

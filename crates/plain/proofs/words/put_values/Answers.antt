@@ -31,17 +31,17 @@ pub loop-j-preserved : goal.loop-j-preserved
 loop-j-preserved c =
     let args = c.args in (
       omega arith,
-      step args.ws.now c.loop-j.ws c.put_value.new.0 args.t3 args.at c.loop-j.j c.value_of.result
+      step args.ws.now c.loop-j.ws c.put_value.new.ws args.cs args.at c.loop-j.j c.value_of.result
           c.put_value.ensures.memory c.value_of.ensures.value c.loop-j.invariant.1,
     )
 
 pub shape_of-ws : goal.shape_of-ws
 shape_of-ws c =
     let args = c.args in
-    ap length c.loop-j.invariant.1 ∙ length_put (word_in args.t3) args.ws.now args.at c.loop-j.j
+    ap length c.loop-j.invariant.1 ∙ length_put (word_in args.cs) args.ws.now args.at c.loop-j.j
 
 pub returns : goal.returns
 returns c =
     let args = c.args in
     let e : c.loop-j.j ≡ 16 = omega arith in
-    record { memory = c.loop-j.invariant.1 ∙ ap (λ (n : ℕ). put n (word_in args.t3) args.ws.now args.at) e }
+    record { memory = c.loop-j.invariant.1 ∙ ap (λ (n : ℕ). put n (word_in args.cs) args.ws.now args.at) e }

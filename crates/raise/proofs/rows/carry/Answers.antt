@@ -25,7 +25,7 @@ join_words-requires c =
     let a = c.args in
     let here = row_most a.m a.pc in
     let there = row_most a.m a.to in
-    (c.join_words-arg-1.given.0.1, omega (arith, here), omega (arith, there))
+    (c.told-w, omega (arith, here), omega (arith, there))
 
 pub returns : goal.returns
 returns c =
@@ -47,6 +47,6 @@ returns c =
           let few = at_most_16 n _ _ count in
           let here = registers_from_lem m a.pc n _ c.row-from.ensures.value few in
           let there = registers_from_lem m a.to n _ c.row-into.ensures.value few in
-          row_carried p formed m a.pc a.to a.w.now _ lm lp c.join_words-arg-1.given.0.1 n count
+          row_carried p formed m a.pc a.to a.w.now _ lm lp c.told-w n count
           (c.join_words.ensures.raised (register_at m a.pc) (register_at m a.to) here there);
     }

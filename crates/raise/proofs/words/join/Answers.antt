@@ -10,7 +10,7 @@ returns-then-i-lt9712 c =
     record {
       joined = λ s e l.
           let a = c.args in
-          let size : length a.w.now ≡ 9712 = c.put-arg-1.given.0.1 in
+          let size : length a.w.now ≡ 9712 = c.told-w in
           rw c.put.ensures.memory
           (joined_at a.w.now a.i a.mask c.join-all.result size (omega arith) c.join-all.ensures.bits s e);
     }

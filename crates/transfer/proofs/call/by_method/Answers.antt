@@ -10,9 +10,6 @@ use Rattle.transfer.specs.Transfer.{from_callee}
 use Rattle.transfer.proofs.Called.{raised_five, all_arguments}
 use Rattle.transfer.proofs.call.by_method.Goals as goal
 
-pub come_back-requires : goal.come_back-requires
-come_back-requires c = c.requires
-
 pub returns : goal.returns
 returns c =
     record {

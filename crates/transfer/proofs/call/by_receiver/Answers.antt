@@ -9,9 +9,6 @@ use Rattle.transfer.proofs.Called.{virtual_raised}
 use Rattle.transfer.proofs.Raising.{raised_called}
 use Rattle.transfer.proofs.call.by_receiver.Goals as goal
 
-pub take_callees-called-requires : goal.take_callees-called-requires
-take_callees-called-requires c = c.requires
-
 pub returns : goal.returns
 returns c =
     record {

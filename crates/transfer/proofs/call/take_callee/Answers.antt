@@ -22,9 +22,6 @@ returns-then-subset c =
           (sym c.subset.ensures.value ∙ c.if-subset.true);
     }
 
-pub come_back-back-requires : goal.come_back-back-requires
-come_back-back-requires c = c.requires
-
 pub returns-then-q-lt16 : goal.returns-then-q-lt16
 returns-then-q-lt16 c =
     record {

@@ -25,9 +25,6 @@ loop-q-init c =
           (claim_in a.w.now),
     )
 
-pub take_callee-more-requires : goal.take_callee-more-requires
-take_callee-more-requires c = c.requires
-
 pub loop-q-preserved : goal.loop-q-preserved
 loop-q-preserved c =
     let a = c.args in

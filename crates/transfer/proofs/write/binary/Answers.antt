@@ -2,9 +2,6 @@
 use Rattle.transfer.proofs.Raising.{raised_after}
 use Rattle.transfer.proofs.write.binary.Goals as goal
 
-pub of_both-new-requires : goal.of_both-new-requires
-of_both-new-requires c = c.requires
-
 pub returns : goal.returns
 returns c =
     record {

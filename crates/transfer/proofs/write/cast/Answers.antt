@@ -12,9 +12,6 @@ use Rattle.transfer.proofs.Written.{gives_cast}
 use Rattle.transfer.proofs.Raising.{raised_after}
 use Rattle.transfer.proofs.write.cast.Goals as goal
 
-pub written-new-requires : goal.written-new-requires
-written-new-requires c = c.requires
-
 pub returns : goal.returns
 returns c =
     record {

@@ -6,9 +6,6 @@ use Rattle.slots.specs.Layout.{claim_in}
 use Rattle.transfer.proofs.Written.{gives_bit}
 use Rattle.transfer.proofs.write.made.Goals as goal
 
-pub written-requires : goal.written-requires
-written-requires c = c.requires
-
 pub returns : goal.returns
 returns c =
     record {

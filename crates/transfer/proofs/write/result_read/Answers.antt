@@ -6,9 +6,6 @@ use Rattle.slots.specs.Layout.{claim_in}
 use Rattle.transfer.proofs.Written.{gives_mask}
 use Rattle.transfer.proofs.write.result_read.Goals as goal
 
-pub written-requires : goal.written-requires
-written-requires c = c.requires
-
 pub returns : goal.returns
 returns c =
     let a = c.args in

@@ -17,8 +17,8 @@ returns c =
           let p = program_in a.t.now in
           let own = register_at a.m a.pc a.a in
           let inside = own_inside p formed own (lm, omega arith, la) in
-          let first = replaced a.w.now (place_of own) a.value.bits c.put-arg-1.given.0.1 inside in
-          let last = replaced c.onward-new.new.w (place_of own) c.register-own.result.bits c.put-arg-2-1.given.0.1 inside in
+          let first = replaced a.w.now (place_of own) a.value.bits c.told-w inside in
+          let last = replaced c.onward-new.new.w (place_of own) c.register-own.result.bits c.onward-new.array_long inside in
           let on = (rw (add-one a.pc) at c.onward-new.ensures.raised) formed lm lp in
           written_meanwhile p formed a.m a.pc a.a lm lp la a.value (claim_in a.w.now) _ _ _ f gives
           (rw (c.put.ensures.memory, c.register_place-place.ensures.value) first)
