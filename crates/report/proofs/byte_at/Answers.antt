@@ -1,8 +1,6 @@
 -- `report::byte_at` meets its contract. Assumes nothing.
 use mathlib.Core.Path.{sym}
-use native.Mathlib.Omega.{arith}
 use lib.ListN.{get_or-eq_default}
-use borrow.Author.Rules.{rules}
 use Rattle.report.proofs.byte_at.Goals as goal
 
 pub returns-else-i-memory : goal.returns-else-i-memory

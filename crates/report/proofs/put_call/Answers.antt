@@ -1,5 +1,4 @@
 -- `report::put_call` meets its contract. Assumes nothing.
-use borrow.Author.Rules.{rules}
 use Rattle.report.proofs.put_call.Goals as goal
 
 pub returns : goal.returns

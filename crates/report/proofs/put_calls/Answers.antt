@@ -1,9 +1,6 @@
 -- `report::put_calls` meets its contract. Assumes nothing.
-use Prim.Native.Nat.{◌-◌, ◌≤◌}
 use borrow.Author.Rules.{rules}
-use Rattle.page.specs.Page.{Put}
 use Rattle.page.proofs.Puts.{put_none, put_length}
-use Rattle.program.specs.Lists.{joined}
 use Rattle.rows.proofs.Loops.{put_joined, put_all}
 use Rattle.report.specs.Printed.{call_line, call_lines}
 use Rattle.report.proofs.put_calls.Goals as goal

@@ -1,11 +1,8 @@
 -- `report::put_calls`: what its loops keep, and what falls.
 use Prim.Native.Nat.{◌-◌, ◌≤◌}
-use borrow.Author.Rules.{rules}
 use Rattle.page.specs.Page.{Put}
-use Rattle.page.proofs.Puts.{put_none, put_length}
 use Rattle.program.specs.Lists.{joined}
-use Rattle.rows.proofs.Loops.{put_joined, put_all}
-use Rattle.report.specs.Printed.{call_line, call_lines}
+use Rattle.report.specs.Printed.{call_line}
 use Rattle.report.proofs.put_calls.Given as goal
 
 abbrev pub invariant-loop-i : goal.invariant-loop-i

@@ -1,6 +1,5 @@
 -- `report::put_violated` meets its contract. Assumes nothing.
 use Rattle.page.proofs.Puts.{put_then}
-use borrow.Author.Rules.{rules}
 use Rattle.report.proofs.put_violated.Goals as goal
 
 pub returns : goal.returns

@@ -1,7 +1,6 @@
 -- `report::size_of` meets its contract. Assumes nothing.
 use mathlib.Core.Path.{refl, sym}
 use Rattle.report.proofs.Calls.{accepted_length}
-use borrow.Author.Rules.{rules}
 use Rattle.report.proofs.size_of.Goals as goal
 
 pub returns-in-Accepted : goal.returns-in-Accepted

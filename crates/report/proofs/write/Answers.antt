@@ -2,7 +2,6 @@
 use native.Mathlib.Omega.{arith}
 use Rattle.page.proofs.Puts.{front, past_end}
 use Rattle.report.specs.Printed.{printed}
-use borrow.Author.Rules.{rules}
 use Rattle.report.proofs.write.Goals as goal
 
 pub returns-then-out-size_of : goal.returns-then-out-size_of

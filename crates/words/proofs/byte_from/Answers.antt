@@ -1,9 +1,6 @@
 -- `words::byte_from` meets its contract. Assumes nothing.
-use Prim.Native.Nat.{◌+◌}
-use native.Mathlib.Omega.{arith}
 use lib.Seq.{get_or-drop}
 use Rattle.words.proofs.Entries.{byte_past}
-use borrow.Author.Rules.{rules}
 use Rattle.words.proofs.byte_from.Goals as goal
 
 pub returns-then-more-table : goal.returns-then-more-table

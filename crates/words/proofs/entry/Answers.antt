@@ -1,9 +1,6 @@
 -- `words::entry` meets its contract. Assumes nothing.
 use borrow.Author.Rules.{rules}
-use mathlib.Core.Path.{◌≡◌, sym, ◌∙◌}
-use Prim.Native.Nat.{◌≤◌, ◌-◌}
-use lib.ListN.{length, drop}
-use Rattle.words.specs.Words.{after_key}
+use mathlib.Core.Path.{sym, ◌∙◌}
 use Rattle.words.proofs.Entries.{entry_here, entry_later, entry_none}
 use Rattle.words.proofs.entry.Goals as goal
 

@@ -1,10 +1,8 @@
 -- `words::entry`: what its loops keep, and what falls.
-use borrow.Author.Rules.{rules}
-use mathlib.Core.Path.{◌≡◌, sym, ◌∙◌}
+use mathlib.Core.Path.{◌≡◌}
 use Prim.Native.Nat.{◌≤◌, ◌-◌}
 use lib.ListN.{length, drop}
 use Rattle.words.specs.Words.{after_key}
-use Rattle.words.proofs.Entries.{entry_here, entry_later, entry_none}
 use Rattle.words.proofs.entry.Given as goal
 
 abbrev pub invariant-loop-i : goal.invariant-loop-i

@@ -1,6 +1,5 @@
 -- `words::key_at` meets its contract. Assumes nothing.
 use Rattle.words.proofs.Entries.{other_start, other_kind, other_ten, other_one, key_by_space}
-use borrow.Author.Rules.{rules}
 use Rattle.words.proofs.key_at.Goals as goal
 
 pub returns-then-byte_from-ne10 : goal.returns-then-byte_from-ne10

@@ -1,8 +1,6 @@
 -- `words::line_length` meets its contract. Assumes nothing.
 use borrow.Author.Rules.{rules}
-use Prim.Native.Nat.{◌-◌}
-use lib.ListN.{length}
-use Rattle.words.proofs.Lines.{Passed, passed_more, whole_full, whole_text, whole_line}
+use Rattle.words.proofs.Lines.{passed_more, whole_full, whole_text, whole_line}
 use Rattle.words.proofs.line_length.Goals as goal
 
 pub returns-then-i-ge100 : goal.returns-then-i-ge100

@@ -1,8 +1,7 @@
 -- `words::line_length`: what its loops keep, and what falls.
-use borrow.Author.Rules.{rules}
 use Prim.Native.Nat.{◌-◌}
 use lib.ListN.{length}
-use Rattle.words.proofs.Lines.{Passed, passed_more, whole_full, whole_text, whole_line}
+use Rattle.words.proofs.Lines.{Passed}
 use Rattle.words.proofs.line_length.Given as goal
 
 abbrev pub invariant-loop-i : goal.invariant-loop-i

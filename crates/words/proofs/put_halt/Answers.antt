@@ -1,6 +1,5 @@
 -- `words::put_halt` meets its contract. Assumes nothing.
 use Rattle.page.proofs.Puts.{put_none, put_length}
-use borrow.Author.Rules.{rules}
 use Rattle.words.proofs.put_halt.Goals as goal
 
 pub returns-in-Done : goal.returns-in-Done

@@ -1,6 +1,5 @@
 -- `words::put_label` meets its contract. Assumes nothing.
 use Rattle.page.proofs.Puts.{put_then}
-use borrow.Author.Rules.{rules}
 use Rattle.words.proofs.put_label.Goals as goal
 
 pub returns : goal.returns

@@ -5,7 +5,6 @@ use Prim.Native.Nat.{ℕ}
 use borrow.Author.Tests.{eq-eqb, ne_eqb}
 use Rattle.page.proofs.Puts.{put_none, put_as}
 use Rattle.words.specs.Told.{line_label, label_text, line_text}
-use borrow.Author.Rules.{rules}
 use Rattle.words.proofs.put_line.Goals as goal
 
 no_line : (line : ℕ) → line ≡ 0 → [] ≡ line_text line

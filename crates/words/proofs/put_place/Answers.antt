@@ -1,6 +1,5 @@
 -- `words::put_place` meets its contract. Assumes nothing.
 use Rattle.page.proofs.Puts.{put_then}
-use borrow.Author.Rules.{rules}
 use Rattle.words.proofs.put_place.Goals as goal
 
 pub returns : goal.returns

@@ -3,7 +3,6 @@ use mathlib.Core.Path.{sym}
 use lib.Seq.{length-take-le}
 use Rattle.page.proofs.Puts.{put_as}
 use Rattle.words.proofs.Entries.{words_found}
-use borrow.Author.Rules.{rules}
 use Rattle.words.proofs.put_words.Goals as goal
 
 pub slice_bounds-put-end : goal.slice_bounds-put-end

@@ -1,6 +1,5 @@
 -- `words::tell` meets its contract. Assumes nothing.
 use Rattle.page.proofs.Puts.{put_none, put_length}
-use borrow.Author.Rules.{rules}
 use Rattle.words.proofs.tell.Goals as goal
 
 pub returns-in-Accepted : goal.returns-in-Accepted

@@ -1,6 +1,5 @@
 -- `words::tell_run` meets its contract. Assumes nothing.
 use Rattle.page.proofs.Puts.{put_length}
-use borrow.Author.Rules.{rules}
 use Rattle.words.proofs.tell_run.Goals as goal
 
 pub shape_of-out-in-Refused : goal.shape_of-out-in-Refused

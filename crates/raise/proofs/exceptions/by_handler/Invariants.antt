@@ -15,7 +15,8 @@ invariant-loop-h l =
     (l.h ≤ handler_count (program_in l.t) l.m)
     × (l.s ≡ sets_of (program_in l.t)
     → Rest (program_in l.t) l.m l.pc l.initial.rest l.h l.rest
-    × (Formed (program_in l.t) → l.m < method_count (program_in l.t) → Partial (program_in l.t) l.m l.pc l.initial.rest l.h (claim_in l.initial.w) (claim_in l.w)))
+    × (Formed (program_in l.t) → l.m < method_count (program_in l.t)
+    → Partial (program_in l.t) l.m l.pc l.initial.rest l.h (claim_in l.initial.w) (claim_in l.w)))
 
 abbrev pub decreases-loop-h : goal.decreases-loop-h
 decreases-loop-h l = l.h

@@ -13,7 +13,8 @@ use Rattle.raise.proofs.masks.into_fields.Given as goal
 abbrev pub invariant-loop-k : goal.invariant-loop-k
 invariant-loop-k l =
     (l.k ≤ 60)
-    × (((i : ℕ) → has l.set i ≡ true → place_of (field_of i l.x) < claim_size) → Raised (each l.k (into_field l.set l.x l.value)) (claim_in l.initial.w) (claim_in l.w))
+    × (((i : ℕ) → has l.set i ≡ true → place_of (field_of i l.x) < claim_size)
+    → Raised (each l.k (into_field l.set l.x l.value)) (claim_in l.initial.w) (claim_in l.w))
 
 abbrev pub decreases-loop-k : goal.decreases-loop-k
 decreases-loop-k l = 60 - l.k

@@ -12,7 +12,8 @@ use Rattle.raise.proofs.rows.join_words.Given as goal
 abbrev pub invariant-loop-r : goal.invariant-loop-r
 invariant-loop-r l =
     (l.r ≤ l.n) × (length l.w ≡ claim_size)
-    × ((s t : ℕ → Slot) → Consecutive s l.from l.n → Consecutive t l.into l.n → Raised (each l.r (each_into s t)) (claim_in l.initial.w) (claim_in l.w))
+    × ((s t : ℕ → Slot) → Consecutive s l.from l.n → Consecutive t l.into l.n
+    → Raised (each l.r (each_into s t)) (claim_in l.initial.w) (claim_in l.w))
 
 abbrev pub decreases-loop-r : goal.decreases-loop-r
 decreases-loop-r l = l.n - l.r

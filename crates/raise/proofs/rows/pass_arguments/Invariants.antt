@@ -10,7 +10,8 @@ use Rattle.raise.proofs.rows.pass_arguments.Given as goal
 abbrev pub invariant-loop-i : goal.invariant-loop-i
 invariant-loop-i l =
     (l.from ≤ l.i) × (l.i ≤ l.from + (l.count - l.from))
-    × Calling (program_in l.t) l.q l.count (each (l.i - l.from) (λ k. argument_into (program_in l.t) l.m l.pc l.first l.q (l.from + k))) (claim_in l.initial.w) (claim_in l.w)
+    × Calling (program_in l.t) l.q l.count (each (l.i - l.from) (λ k. argument_into (program_in l.t) l.m l.pc l.first l.q (l.from + k)))
+    (claim_in l.initial.w) (claim_in l.w)
 
 abbrev pub decreases-loop-i : goal.decreases-loop-i
 decreases-loop-i l = l.count - l.i

@@ -9,7 +9,8 @@ use Rattle.order.specs.Raised.{Raised}
 use Rattle.raise.proofs.start.all_fields.Given as goal
 
 abbrev pub invariant-loop-k : goal.invariant-loop-k
-invariant-loop-k l = (l.k ≤ l.n) × (Formed (program_in l.t) → Raised (each l.k (class_fields (program_in l.t))) (claim_in l.initial.w) (claim_in l.w))
+invariant-loop-k l = (l.k ≤ l.n) × (Formed (program_in l.t)
+    → Raised (each l.k (class_fields (program_in l.t))) (claim_in l.initial.w) (claim_in l.w))
 
 abbrev pub decreases-loop-k : goal.decreases-loop-k
 decreases-loop-k l = l.n - l.k

@@ -1,6 +1,5 @@
 -- `report::run::put_count` meets its contract. Assumes nothing.
 use Rattle.page.proofs.Puts.{put_then}
-use borrow.Author.Rules.{rules}
 use Rattle.report.proofs.run.put_count.Goals as goal
 
 pub returns : goal.returns

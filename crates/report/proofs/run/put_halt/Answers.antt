@@ -1,5 +1,4 @@
 -- `report::run::put_halt` meets its contract. Assumes nothing.
-use borrow.Author.Rules.{rules}
 use Rattle.report.proofs.run.put_halt.Goals as goal
 
 pub returns-in-Done : goal.returns-in-Done

@@ -1,6 +1,5 @@
 -- `report::run::put_numbered` meets its contract. Assumes nothing.
 use Rattle.page.proofs.Puts.{put_then}
-use borrow.Author.Rules.{rules}
 use Rattle.report.proofs.run.put_numbered.Goals as goal
 
 pub returns : goal.returns

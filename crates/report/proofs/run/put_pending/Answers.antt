@@ -1,6 +1,5 @@
 -- `report::run::put_pending` meets its contract. Assumes nothing.
 use Rattle.page.proofs.Puts.{put_none, put_then}
-use borrow.Author.Rules.{rules}
 use Rattle.report.proofs.run.put_pending.Goals as goal
 
 pub returns-in-Nothing : goal.returns-in-Nothing

@@ -1,6 +1,5 @@
 -- `report::run::write_run` meets its contract. Assumes nothing.
 use Rattle.page.proofs.Puts.{put_then}
-use borrow.Author.Rules.{rules}
 use Rattle.report.proofs.run.write_run.Goals as goal
 
 pub returns-in-Refused : goal.returns-in-Refused

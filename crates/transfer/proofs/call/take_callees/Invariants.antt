@@ -13,7 +13,8 @@ abbrev pub invariant-loop-q : goal.invariant-loop-q
 invariant-loop-q l =
     (l.q ≤ l.n)
     × (l.s ≡ sets_of (program_in l.t) → 0 < l.count
-    → Flowing (program_in l.t) l.m (suc l.pc) (each l.q (called_from (program_in l.t) l.m l.pc l.mask l.name l.count l.register)) (claim_in l.initial.w) (claim_in l.w))
+    → Flowing (program_in l.t) l.m (suc l.pc) (each l.q (called_from (program_in l.t) l.m l.pc l.mask l.name l.count l.register))
+    (claim_in l.initial.w) (claim_in l.w))
 
 abbrev pub decreases-loop-q : goal.decreases-loop-q
 decreases-loop-q l = l.n - l.q

@@ -12,7 +12,8 @@ use Rattle.wording.proofs.put.put_registers.Given as goal
 
 abbrev pub invariant-loop-r : goal.invariant-loop-r
 invariant-loop-r l =
-    (l.r ≤ l.n) × ((digits_in l.digits ≡ sixteen l.before.bits) × Put l.initial.out l.at (masks_text (claim_in l.w) (tab l.r (register_at l.m l.pc))) l.out l.next)
+    (l.r ≤ l.n) × ((digits_in l.digits ≡ sixteen l.before.bits)
+    × Put l.initial.out l.at (masks_text (claim_in l.w) (tab l.r (register_at l.m l.pc))) l.out l.next)
 
 abbrev pub decreases-loop-r : goal.decreases-loop-r
 decreases-loop-r l = l.n - l.r
