@@ -2,7 +2,6 @@
 use native.Mathlib.Omega.{arith}
 use Rattle.plain.proofs.Answers.{refused_answers, short_answers}
 use Rattle.reader.specs.Read.{read_program}
-use borrow.Author.Rules.{rules}
 use Rattle.plain.proofs.refusal.Goals as goal
 
 pub returns-then-number-ne0 : goal.returns-then-number-ne0

@@ -1,6 +1,5 @@
 -- `plain::words::put_frame` meets its contract. Assumes nothing.
 use Rattle.plain.proofs.Elements.{frame_put}
-use borrow.Author.Rules.{rules}
 use Rattle.plain.proofs.words.put_frame.Goals as goal
 
 pub returns : goal.returns

@@ -1,6 +1,5 @@
 -- `plain::words::put_object` meets its contract. Assumes nothing.
 use Rattle.plain.proofs.Elements.{object_put}
-use borrow.Author.Rules.{rules}
 use Rattle.plain.proofs.words.put_object.Goals as goal
 
 pub returns : goal.returns

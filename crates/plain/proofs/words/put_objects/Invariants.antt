@@ -1,12 +1,7 @@
 -- `plain::words::put_objects`: what its loops keep, and what falls.
-use mathlib.Core.Path.{◌≡◌, refl, ap, ◌∙◌}
-use Prim.Native.Nat.{ℕ, ◌-◌, ◌*◌, ◌≤◌}
-use native.Mathlib.Omega.{arith}
-use lib.ListN.{length, get_or}
-use Rattle.store.specs.Store.{absent_object}
-use Rattle.plain.specs.Words.{put, objects_word, object_word_in}
-use Rattle.plain.proofs.Puts.{length_put}
-use Rattle.plain.proofs.Elements.{one_more_lem, object_more}
+use mathlib.Core.Path.{◌≡◌}
+use Prim.Native.Nat.{◌-◌, ◌*◌, ◌≤◌}
+use Rattle.plain.specs.Words.{put, objects_word}
 use Rattle.plain.proofs.words.put_objects.Given as goal
 
 abbrev pub invariant-loop-i : goal.invariant-loop-i
