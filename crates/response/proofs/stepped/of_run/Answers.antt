@@ -14,8 +14,8 @@ returns c =
       number = c.step_in-o.ensures.answer.0;
       values = c.step_in-o.ensures.answer.1;
       frames = c.step_in-o.ensures.memory.0;
-      objects = c.step_in-o.ensures.memory.1.0;
-      statics = c.step_in-o.ensures.memory.1.1;
+      objects = c.step_in-o.ensures.memory.1;
+      statics = c.step_in-o.ensures.memory.2;
       tables = c.step_in-o.ensures.tables;
     })
     c.top_of.result c.place_of-place.result.method c.place_of-place.result.address c.top_of.ensures.value c.place_of-place.ensures.method c.place_of-place.ensures.address
