@@ -10,7 +10,6 @@ use Rattle.arithmetic.specs.declared.Computed.TheVariants.{Number}
 use Rattle.arithmetic.specs.Arithmetic.{computed, unary_value}
 use Rattle.reader.specs.Sample.{bytes_of, sample}
 use Rattle.cells.specs.declared.Frame.{Frame}
-use Rattle.cells.specs.declared.Object.{Object}
 use Rattle.cells.specs.Cells.{zero_value, zero_frame, zero_object}
 use Rattle.bounded.specs.Step.{Stepping, stepping_number, stepping_values}
 use Rattle.bounded.specs.Lent.{lending, frames_left}
