@@ -1,5 +1,4 @@
 -- `compare_cases::show_all`: what its loops keep, and what falls.
-use Rattle.std.proofs.Common.{rules}
 use Rattle.compare_cases.proofs.show_all.Given as goal
 
 abbrev pub invariant-loop-left : goal.invariant-loop-left

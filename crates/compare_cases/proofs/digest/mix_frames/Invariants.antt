@@ -1,5 +1,5 @@
 -- `compare_cases::digest::mix_frames`: what its loops keep, and what falls.
-use Rattle.std.proofs.Common.{◌-◌, ◌≤◌, rules}
+use Rattle.std.proofs.Common.{◌-◌, ◌≤◌}
 use Rattle.compare_cases.proofs.digest.mix_frames.Given as goal
 
 abbrev pub invariant-loop-i : goal.invariant-loop-i

@@ -1,5 +1,5 @@
 -- `compare_cases::digest::total`: what its loops keep, and what falls.
-use Rattle.std.proofs.Common.{◌-◌, ◌≤◌, rules}
+use Rattle.std.proofs.Common.{◌-◌, ◌≤◌}
 use Rattle.compare_cases.proofs.digest.total.Given as goal
 
 abbrev pub invariant-loop-m : goal.invariant-loop-m

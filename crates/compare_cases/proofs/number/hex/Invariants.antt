@@ -1,5 +1,5 @@
 -- `compare_cases::number::hex`: what its loops keep, and what falls.
-use Rattle.std.proofs.Common.{◌≡◌, ◌≤◌, length, rules}
+use Rattle.std.proofs.Common.{◌≡◌, ◌≤◌, length}
 use Rattle.compare_cases.proofs.number.hex.Given as goal
 
 abbrev pub invariant-loop-i : goal.invariant-loop-i

@@ -1,5 +1,5 @@
 -- `compare_cases::number::of_bytes`: what its loops keep, and what falls.
-use Rattle.std.proofs.Common.{◌≡◌, ℕ, ◌+◌, ◌-◌, ◌*◌, ◌%◌, ◌<◌, ◌≤◌, List, length, get_or, drop, sym, refl, ◌∙◌, add-one, arith, drop_of_length-le, drop-cons}
+use Rattle.std.proofs.Common.{◌≡◌, ◌-◌, ◌≤◌, length, drop}
 use Rattle.compare_cases.specs.Records.{bytes_from}
 use Rattle.compare_cases.proofs.number.of_bytes.Given as goal
 

@@ -1,7 +1,6 @@
 -- `response::stepped::top_of` meets its contract. Assumes nothing.
 use mathlib.Core.Path.{refl}
 use native.Mathlib.Omega.{arith}
-use borrow.Author.Rules.{rules}
 use Rattle.response.proofs.stepped.top_of.Goals as goal
 
 pub returns-then-frames-eq0 : goal.returns-then-frames-eq0
