@@ -1,5 +1,6 @@
 -- Records: the number that bytes say, a checksum, how many records are left, where a text stands. Definitions only.
-use Rattle.std.specs.Prelude.{◌≡◌, ◌≤◌, length, take, ℕ, ◌+◌, ◌-◌, ◌*◌, ◌%◌, Bool, true, false, List, [], ◌∷◌}
+use Rattle.io.specs.Counts.{IsPrefixLen}
+use Rattle.std.specs.Prelude.{ℕ, ◌+◌, ◌-◌, ◌*◌, ◌%◌, Bool, true, false, List, [], ◌∷◌}
 use Rattle.compare_cases.specs.declared.record.Next.{Next}
 use Rattle.compare_cases.specs.declared.record.Next.TheVariants.{Text, End, Broken}
 
@@ -23,10 +24,6 @@ abbrev pub whole : Next → Bool
 whole (Text size) = true
 whole End = true
 whole Broken = false
-
--- so many bytes stand at the start of the buffer, which has as many
-abbrev pub IsPrefixLen : ℕ → List ℕ → Type 0
-IsPrefixLen n xs = (n ≤ length xs) × (n ≡ length (take n xs))
 
 -- a text lies at the start of the buffer that was filled
 abbrev pub Filled : Next → List ℕ → Type 0

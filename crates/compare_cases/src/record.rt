@@ -1,6 +1,6 @@
 // Files of records. A record starts with a text: its length in four bytes, the high byte first, and so many bytes.
 ghost use Rattle.std.specs.Prelude.{◌≡◌, ◌-◌, ◌≤◌, length};
-ghost use Rattle.compare_cases.specs.Records.{IsPrefixLen, Filled, left_after, whole};
+ghost use Rattle.compare_cases.specs.Records.{Filled, left_after, whole};
 
 use super::number;
 use std::fs;
@@ -64,34 +64,9 @@ pub fn space() -> [u8; 65600]
     [0; 65600]
 }
 
-// One read: how many bytes, 0 where it fails.
-fn read_some<F: Read>(file: &mut F, buffer: &mut [u8]) -> usize
-    ensures { IsPrefixLen result buffer.new }
-{
-    match file.read(&mut *buffer) {
-        Ok(n) => n,
-        Err(_) => 0,
-    }
-}
-
-// Reads until the buffer is full, the file ends or a read fails: how many bytes.
-fn read_full<F: Read>(file: &mut F, buffer: &mut [u8]) -> usize
-    ensures { IsPrefixLen result buffer.new }
-{
-    let mut at = 0;
-    while at < buffer.len() {
-        let n = read_some(file, &mut buffer[at..]);
-        if n == 0 {
-            return at;
-        }
-        at += n;
-    }
-    at
-}
-
 // Fills the buffer; false, and a line on standard error, where the file is too short.
 pub fn fill<R: Eprint, F: Read>(rt: &R, file: &mut F, buffer: &mut [u8]) -> bool {
-    let n = read_full(file, &mut *buffer);
+    let n = input::fill(file, &mut *buffer).count;
     if n < buffer.len() {
         complain(rt, "cut short");
         return false;
@@ -118,7 +93,7 @@ pub fn fill_next<R: Eprint, F: Read>(rt: &R, file: &mut F, buffer: &mut [u8]) ->
     ensures { Filled result buffer.new }
 {
     let mut head = [0u8; 4];
-    let n = read_full(file, &mut head);
+    let n = input::fill(file, &mut head).count;
     if n == 0 {
         return Next::End;
     }

@@ -1,11 +1,8 @@
 -- What came of a file that is read. Definitions only.
-use Rattle.std.specs.Prelude.{◌≡◌, List, ℕ, ◌≤◌, length, take}
+use Rattle.std.specs.Prelude.{List, ℕ}
+use Rattle.io.specs.Counts.{IsPrefixLen}
 use Rattle.tool.specs.declared.files.Got.{Got}
 use Rattle.tool.specs.declared.files.Got.TheVariants.{Bytes, Failed}
-
--- so many bytes stand at the start of the buffer, which has as many
-abbrev pub IsPrefixLen : ℕ → List ℕ → Type 0
-IsPrefixLen n xs = (n ≤ length xs) × (n ≡ length (take n xs))
 
 -- the bytes of a file lie at the start of the buffer
 abbrev pub Filled : Got → List ℕ → Type 0

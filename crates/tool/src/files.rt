@@ -1,7 +1,7 @@
 // Files by name. What is said of them goes to `told`, and the system's reason to standard error.
 ghost use Rattle.tool.specs.Files.{Filled};
 
-use std::io::{Cursor, Read, Write};
+use std::io::{Cursor, Write};
 use std::rt::Files;
 use std::{fs, io, str};
 
@@ -34,43 +34,10 @@ pub fn fail<R: Eprint>(rt: &R, name: &[u8], error: io::Error) {
     };
 }
 
-// One read.
-fn read_some<F: Read>(file: &mut F, buffer: &mut [u8]) -> Got
-    ensures bytes { Filled result buffer.new }
-{
-    match file.read(&mut *buffer) {
-        Ok(n) => Got::Bytes(n),
-        Err(error) => Got::Failed(error),
-    }
-}
-
-// Reads until the buffer is full or the file ends.
-fn read_all<F: Read>(file: &mut F, buffer: &mut [u8]) -> Got
-    ensures bytes { Filled result buffer.new }
-{
-    let mut at = 0;
-    while at < buffer.len() {
-        let got = read_some(file, &mut buffer[at..]);
-        let Got::Bytes(n) = got else {
-            return got;
-        };
-        if n == 0 {
-            return Got::Bytes(at);
-        }
-        at += n;
-    }
-    Got::Bytes(at)
-}
-
-// Says that a read failed.
-fn complain<R: Eprint, T: Print>(rt: &R, path: &[u8], got: Got, told: &T) {
-    match got {
-        Got::Bytes(_) => {}
-        Got::Failed(error) => {
-            fail(rt, path, error);
-            let _ = told.write_all(b"nothing is printed where a file cannot be read\n");
-        }
-    }
+// Says that a read failed, and why.
+fn complain<R: Eprint, T: Print>(rt: &R, path: &[u8], error: io::Error, told: &T) {
+    fail(rt, path, error);
+    let _ = told.write_all(b"nothing is printed where a file cannot be read\n");
 }
 
 // Opens a file for reading. Its name must be text.
@@ -92,9 +59,14 @@ pub fn read_file<R: Files + Eprint, T: Print>(
 {
     match open(rt, path) {
         Ok(mut file) => {
-            let got = read_all(&mut file, &mut *buffer);
-            complain(rt, path, got, told);
-            got
+            let input = input::fill(&mut file, &mut *buffer);
+            match input.error {
+                None => Got::Bytes(input.count),
+                Some(error) => {
+                    complain(rt, path, error, told);
+                    Got::Failed(error)
+                }
+            }
         }
         Err(error) => {
             fail(rt, path, error);

@@ -5,7 +5,7 @@
 mod files;
 
 ghost use Rattle.std.specs.Prelude.{◌≡◌, length};
-ghost use Rattle.tool.specs.Files.{IsPrefixLen};
+ghost use Rattle.io.specs.Counts.{IsPrefixLen};
 
 use command::Command;
 use files::{Got, fail, read_file};
