@@ -1,34 +1,22 @@
 -- `input::fill`: the bytes of one more read stand behind those so far. Assumes nothing.
-use Rattle.std.proofs.Common.{◌≡◌, ℕ, ◌+◌, ◌-◌, ◌≤◌, List, ◌++◌, arith, rules, length, take, slice_range, sym, ap, ◌∙◌, subst, le_refl, drop_at, length-take-le}
-use Rattle.std.proofs.lemmas.Slice.{take-put_mid_below}
+use Rattle.std.proofs.Common.{◌≡◌, ℕ, ◌+◌, ◌≤◌, List, ◌++◌, rules, length, take, sym, ap, ◌∙◌, subst}
+use Rattle.std.proofs.Math.Seq.{take-append-add}
+use Rattle.std.proofs.lemmas.List.{length-take-le, take-append-le}
 use Rattle.std.specs.Io.KnownBytes.{Consumes}
 use Rattle.std.proofs.KnownBytes.{Consumes-trans}
 use borrow.Rule.Slice.PartMut.{put_mid, post_of}
-use lib.Seq.{take-add, take-append-le}
 use Rattle.input.proofs.fill.Goals as goal
 
--- a front that stays, and what follows it
-take_split : (a b : ℕ) (old new : List ℕ) → a ≤ b → take a new ≡ take a old → take a old ++ slice_range new a b ≡ take b new
-take_split a b old new h front =
-    let same : a + (b - a) ≡ b = omega arith in
-    ap (λ l. l ++ slice_range new a b) (sym front) ∙ sym (take-add a (b - a) new) ∙ ap (λ n. take n new) same
-
--- the first bytes of a part that was put back
-slice_range-put_mid : (a k n : ℕ) (xs ys : List ℕ) → a ≤ length xs → n ≤ length ys → slice_range (put_mid a k xs ys) a (a + n) ≡ take n ys
-slice_range-put_mid a k n xs ys within fits =
-    let same : (a + n) - a ≡ n = omega arith in
-    let after = post_of a k xs in
-    ap (take ((a + n) - a)) (drop_at (take a xs) (ys ++ after) a (length-take-le a xs within))
-    ∙ ap (λ m. take m (ys ++ after)) same
-    ∙ take-append-le n ys after fits
+-- the front of a list, and the first bytes of the part that was put behind it
+front_and_part : (a k n : ℕ) (xs ys : List ℕ) → a ≤ length xs → n ≤ length ys
+    → take (a + n) (put_mid a k xs ys) ≡ take a xs ++ take n ys
+front_and_part a k n xs ys within fits =
+    ap (λ m. take (m + n) (put_mid a k xs ys)) (sym (length-take-le a xs within))
+    ∙ take-append-add (take a xs) (ys ++ post_of a k xs) n
+    ∙ ap (λ l. take a xs ++ l) (take-append-le n ys (post_of a k xs) fits)
 
 pub loop-at-preserved : goal.loop-at-preserved
 loop-at-preserved g c =
-    let from = c.loop-at.at in
-    let room = length c.loop-at.buffer - from in
-    let within = c.loop-at.invariant.1 in
-    let part = slice_range-put_mid from room c.in-Ok.n c.loop-at.buffer c.read.new.buf within c.in-Ok.ensures.bound.0 in
-    let front = take-put_mid_below _ _ _ _ _ (le_refl _) within in
-    let joined = take_split from (from + c.in-Ok.n) c.loop-at.buffer (put_mid from room c.loop-at.buffer c.read.new.buf) (omega arith) front in
-    let more = Consumes-trans _ _ _ _ _ c.loop-at.invariant.2 c.in-Ok.ensures.bytes.0 in
-    (search rules, search rules, subst (Consumes _ _) (ap (λ l. take from c.loop-at.buffer ++ l) (sym part) ∙ joined) more)
+    let read = c.in-Ok.ensures in
+    let all = front_and_part c.loop-at.at _ c.in-Ok.n c.loop-at.buffer c.read.new.buf c.loop-at.invariant.1 read.bound.0 in
+    (search rules, search rules, subst (Consumes _ _) (sym all) (Consumes-trans _ _ _ _ _ c.loop-at.invariant.2 read.bytes.0))
