@@ -3,13 +3,13 @@
 use mathlib.Core.Path.{◌≡◌, refl}
 use mathlib.Core.List.{List, [], ◌∷◌, map}
 use Prim.Native.Nat.{ℕ}
+use Rattle.std.specs.Prelude.{Some, None}
 use Rattle.program.specs.Program.{no_program}
 use Rattle.reader.specs.Read.{Reading, refused, taken, reading_number, reading_values}
 use Rattle.machine.specs.declared.Fault.TheVariants.{NumberAsObject, NotThrowable}
 use Rattle.turn.specs.declared.Halt.TheVariants.{Done, Uncaught, Faulted, StepsMade}
 use Rattle.bounded.specs.declared.Outcome.{Outcome}
 use Rattle.bounded.specs.declared.Outcome.TheVariants.{Refused, Short, Ran}
-use Rattle.bounded.specs.declared.Pending.TheVariants.{Nothing, Object}
 use Rattle.bounded.specs.Step.{number_of, values_of}
 use Rattle.verdict.specs.declared.Verdict.{Verdict}
 use Rattle.verdict.specs.Numbers.{number_of as verdict_number, values_of as verdict_values}
@@ -48,11 +48,11 @@ stepped before o = answered (number_of o) (values_of o) before
 
 outcomes : List Outcome
 outcomes =
-    Ran Done 3 0 5 Nothing
-    ∷ Ran Uncaught 4 0 2 (Object 1)
-    ∷ Ran StepsMade 9 6 8 (Object 0)
-    ∷ Ran (Faulted NumberAsObject) 1 2 3 Nothing
-    ∷ Ran (Faulted NotThrowable) 1 2 3 Nothing
+    Ran Done 3 0 5 None
+    ∷ Ran Uncaught 4 0 2 (Some 1)
+    ∷ Ran StepsMade 9 6 8 (Some 0)
+    ∷ Ran (Faulted NumberAsObject) 1 2 3 None
+    ∷ Ran (Faulted NotThrowable) 1 2 3 None
     ∷ Refused 5 2
     ∷ Short
     ∷ []
@@ -77,5 +77,5 @@ none_read = refl
 none_checked : map (checked four) verdicts ≡ four ∷ four ∷ four ∷ four ∷ []
 none_checked = refl
 
-none_stepped : stepped four (Ran StepsMade 9 6 8 (Object 0)) ≡ four
+none_stepped : stepped four (Ran StepsMade 9 6 8 (Some 0)) ≡ four
 none_stepped = refl

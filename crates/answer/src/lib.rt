@@ -11,7 +11,7 @@ ghost use Rattle.verdict.specs.Numbers.{number_of as verdict_number, values_of a
 ghost use Rattle.output.specs.Numbers.{number_of as output_number, values_of as output_values};
 ghost use Rattle.answer.specs.Words.{pending_word, answered, verdict_answered};
 
-use bounded::{Outcome, Pending};
+use bounded::Outcome;
 use machine::Fault;
 use output::Output;
 use turn::Halt;
@@ -30,7 +30,8 @@ pub fn fault_number(f: Fault) -> u8
     }
 }
 
-fn halt_number(h: Halt) -> u64
+// The papers' number of why the stepper stops.
+pub fn halt_number(h: Halt) -> u64
     ensures value { result ≡ halt_number h }
 {
     match h {
@@ -44,12 +45,12 @@ fn halt_number(h: Halt) -> u64
     }
 }
 
-fn pending_word(p: Pending) -> u64
+fn pending_word(p: Option<u32>) -> u64
     ensures value { (a b c : ℕ) → result ≡ pending_word (a ∷ b ∷ c ∷ pending_values p) }
 {
     match p {
-        Pending::Nothing => 0,
-        Pending::Object(o) => o as u64 + 1,
+        None => 0,
+        Some(o) => o as u64 + 1,
     }
 }
 

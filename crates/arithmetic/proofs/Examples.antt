@@ -1,5 +1,6 @@
 -- Operations and conditions on numbers at the ends and around zero, as tables that are computed; the marked cases of document 01
 -- stand in crates/marked, but for one that refuses an edit here. Assumes nothing.
+use Rattle.std.specs.Prelude.{Option, Some, None}
 use mathlib.Core.Path.{◌≡◌, refl}
 use mathlib.Core.Bool.{Bool, true, false}
 use mathlib.Core.List.{List, [], ◌∷◌, map}
@@ -11,8 +12,6 @@ use Rattle.instruction.specs.declared.Operation.{Operation}
 use Rattle.instruction.specs.declared.Operation.TheVariants.{Add, Sub, Mul, Div, Rem, And, Or, Xor, Shl, Shr, Ushr}
 use Rattle.instruction.specs.declared.Unary.{Unary}
 use Rattle.instruction.specs.declared.Unary.TheVariants.{Neg, Not}
-use Rattle.arithmetic.specs.declared.Computed.{Computed}
-use Rattle.arithmetic.specs.declared.Computed.TheVariants.{Number, ByZero}
 use Rattle.arithmetic.specs.Arithmetic.{wrapped, computed, unary_value, in_order}
 
 -- below zero
@@ -25,38 +24,38 @@ pub record Row : Type 0 where
   pub operation : Operation
   pub left : ℤ
   pub right : ℤ
-  pub due : Computed
+  pub due : Option ℤ
 
-abbrev pub gives : Operation → ℤ → ℤ → Computed → Row
+abbrev pub gives : Operation → ℤ → ℤ → Option ℤ → Row
 gives o x y r = record { operation = o; left = x; right = y; due = r }
 
 abbrev pub table : List Row
 table =
-    gives Add (minus 5) (pos 3) (Number (minus 2))
-    ∷ gives Sub (minus 2147483648) (pos 1) (Number (pos 2147483647))
-    ∷ gives Mul (pos 65536) (pos 65536) (Number (pos 0))
-    ∷ gives Mul (minus 2147483648) (minus 1) (Number (minus 2147483648))
-    ∷ gives Mul (pos 46341) (pos 46341) (Number (minus 2147479015))
-    ∷ gives Div (pos 7) (minus 2) (Number (minus 3))
-    ∷ gives Rem (pos 7) (minus 2) (Number (pos 1))
-    ∷ gives Div (minus 7) (minus 2) (Number (pos 3))
-    ∷ gives Rem (minus 7) (minus 2) (Number (minus 1))
-    ∷ gives Div (pos 0) (minus 7) (Number (pos 0))
-    ∷ gives Div (pos 7) (pos 0) ByZero
-    ∷ gives Rem (minus 7) (pos 0) ByZero
-    ∷ gives And (pos 12) (pos 10) (Number (pos 8))
-    ∷ gives Or (pos 12) (pos 10) (Number (pos 14))
-    ∷ gives Xor (pos 12) (pos 10) (Number (pos 6))
-    ∷ gives And (minus 8) (pos 2147483647) (Number (pos 2147483640))
-    ∷ gives Or (minus 2147483648) (pos 1) (Number (minus 2147483647))
-    ∷ gives Xor (minus 1) (pos 10) (Number (minus 11))
-    ∷ gives Shl (pos 1) (pos 31) (Number (minus 2147483648))
-    ∷ gives Shl (pos 1) (minus 1) (Number (minus 2147483648))
-    ∷ gives Shr (minus 7) (pos 1) (Number (minus 4))
-    ∷ gives Shr (minus 1) (pos 31) (Number (minus 1))
-    ∷ gives Shr (minus 8) (pos 32) (Number (minus 8))
-    ∷ gives Ushr (minus 1) (pos 31) (Number (pos 1))
-    ∷ gives Ushr (minus 1) (pos 0) (Number (minus 1))
+    gives Add (minus 5) (pos 3) (Some (minus 2))
+    ∷ gives Sub (minus 2147483648) (pos 1) (Some (pos 2147483647))
+    ∷ gives Mul (pos 65536) (pos 65536) (Some (pos 0))
+    ∷ gives Mul (minus 2147483648) (minus 1) (Some (minus 2147483648))
+    ∷ gives Mul (pos 46341) (pos 46341) (Some (minus 2147479015))
+    ∷ gives Div (pos 7) (minus 2) (Some (minus 3))
+    ∷ gives Rem (pos 7) (minus 2) (Some (pos 1))
+    ∷ gives Div (minus 7) (minus 2) (Some (pos 3))
+    ∷ gives Rem (minus 7) (minus 2) (Some (minus 1))
+    ∷ gives Div (pos 0) (minus 7) (Some (pos 0))
+    ∷ gives Div (pos 7) (pos 0) None
+    ∷ gives Rem (minus 7) (pos 0) None
+    ∷ gives And (pos 12) (pos 10) (Some (pos 8))
+    ∷ gives Or (pos 12) (pos 10) (Some (pos 14))
+    ∷ gives Xor (pos 12) (pos 10) (Some (pos 6))
+    ∷ gives And (minus 8) (pos 2147483647) (Some (pos 2147483640))
+    ∷ gives Or (minus 2147483648) (pos 1) (Some (minus 2147483647))
+    ∷ gives Xor (minus 1) (pos 10) (Some (minus 11))
+    ∷ gives Shl (pos 1) (pos 31) (Some (minus 2147483648))
+    ∷ gives Shl (pos 1) (minus 1) (Some (minus 2147483648))
+    ∷ gives Shr (minus 7) (pos 1) (Some (minus 4))
+    ∷ gives Shr (minus 1) (pos 31) (Some (minus 1))
+    ∷ gives Shr (minus 8) (pos 32) (Some (minus 8))
+    ∷ gives Ushr (minus 1) (pos 31) (Some (pos 1))
+    ∷ gives Ushr (minus 1) (pos 0) (Some (minus 1))
     ∷ []
 
 pub binary_right :

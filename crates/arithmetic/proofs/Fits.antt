@@ -1,5 +1,6 @@
 -- Every number that an operation gives fits 32 bits if its operands do, and a number that fits is wrapped to itself. Assumes
 -- nothing.
+use Rattle.std.specs.Prelude.{Option, Some, None}
 use mathlib.Core.Path.{◌≡◌, ap, ◌∙◌}
 use mathlib.Core.Bool.{Bool, true, false}
 use Prim.Native.Nat.{◌*◌, ◌^◌}
@@ -14,8 +15,6 @@ use Rattle.instruction.specs.declared.Operation.{Operation}
 use Rattle.instruction.specs.declared.Operation.TheVariants.{Add, Sub, Mul, Div, Rem, And, Or, Xor, Shl, Shr, Ushr}
 use Rattle.instruction.specs.declared.Unary.{Unary}
 use Rattle.instruction.specs.declared.Unary.TheVariants.{Neg, Not}
-use Rattle.arithmetic.specs.declared.Computed.{Computed}
-use Rattle.arithmetic.specs.declared.Computed.TheVariants.{Number, ByZero}
 use Rattle.arithmetic.specs.Arithmetic.{low, wrapped, shift_count, is_zero, computed, unary_value}
 
 low_fits : (z : ℤ) → Fits w32 (low z)
@@ -35,11 +34,11 @@ unfolding wrapped
 wrapped_is {z} f = ap (to_z w32) (low_is z f) ∙ to_z-of_z w32 z f
 
 -- what is computed is a number that fits, or none
-abbrev pub Fitting : Computed → Type 0
-Fitting (Number z) = SFits w32 z
-Fitting ByZero = Unit {0}
+abbrev pub Fitting : Option ℤ → Type 0
+Fitting (Some z) = SFits w32 z
+Fitting None = Unit {0}
 
-divided : (t : Bool) {z : ℤ} → SFits w32 z → Fitting (pick t ByZero (Number z))
+divided : (t : Bool) {z : ℤ} → SFits w32 z → Fitting (pick t None (Some z))
 divided true f = tt
 divided false f = f
 

@@ -1,5 +1,5 @@
 -- What the proofs of several functions use, what the results are, and examples.
-pub mod Wide
 pub mod Tests
 pub mod Fits
 pub mod Examples
+pub mod Wrapped

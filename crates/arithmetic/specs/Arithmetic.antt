@@ -1,6 +1,6 @@
 -- The arithmetic of signed 32-bit numbers. Document 01 lets Android's page on Dalvik bytecode decide it; that page is not among
 -- its papers and is not quoted here. The marked cases of document 01 hold by computation (crates/marked). Definitions only.
-use Rattle.std.specs.Prelude.{Bool, true, false, not, ℕ, zero, suc, ◌*◌, ◌-◌, ◌/◌, ◌%◌, ◌^◌, eqb, ℤ, pos, negsuc, ◌+ℤ◌, ◌-ℤ◌, ◌*ℤ◌}
+use Rattle.std.specs.Prelude.{Bool, true, false, not, ℕ, zero, suc, ◌*◌, ◌-◌, ◌/◌, ◌%◌, ◌^◌, eqb, ℤ, pos, negsuc, ◌+ℤ◌, ◌-ℤ◌, ◌*ℤ◌, Option, Some, None}
 use Rattle.std.specs.Int.Bits.{bit_and, bit_or, bit_xor}
 use Rattle.std.specs.Int.Signed.{lt_z, le_z, quot_z, rem_z, shr_z}
 use Rattle.std.specs.Int.{w32}
@@ -12,8 +12,6 @@ use Rattle.instruction.specs.declared.Operation.{Operation}
 use Rattle.instruction.specs.declared.Operation.TheVariants.{Add, Sub, Mul, Div, Rem, And, Or, Xor, Shl, Shr, Ushr}
 use Rattle.instruction.specs.declared.Unary.{Unary}
 use Rattle.instruction.specs.declared.Unary.TheVariants.{Neg, Not}
-use Rattle.arithmetic.specs.declared.Computed.{Computed}
-use Rattle.arithmetic.specs.declared.Computed.TheVariants.{Number, ByZero}
 
 -- the lowest 32 bits of an integer, as a number below 2 ^ 32
 abbrev pub low : ℤ → ℕ
@@ -42,23 +40,23 @@ same_number (negsuc a) (pos b) = false
 same_number (negsuc a) (negsuc b) = eqb a b
 
 -- "add sub mul div rem and or xor shl shr ushr" of document 01
-unfoldable pub computed : Operation → ℤ → ℤ → Computed
+unfoldable pub computed : Operation → ℤ → ℤ → Option ℤ
 -- addition, subtraction and multiplication, wrapped
-computed Add x y = Number (wrapped (x +ℤ y))
-computed Sub x y = Number (wrapped (x -ℤ y))
-computed Mul x y = Number (wrapped (x *ℤ y))
+computed Add x y = Some (wrapped (x +ℤ y))
+computed Sub x y = Some (wrapped (x -ℤ y))
+computed Mul x y = Some (wrapped (x *ℤ y))
 -- division rounds toward zero
-computed Div x y = pick (is_zero y) ByZero (Number (wrapped (quot_z x y)))
+computed Div x y = pick (is_zero y) None (Some (wrapped (quot_z x y)))
 -- the remainder of that division: it has the sign of the first operand
-computed Rem x y = pick (is_zero y) ByZero (Number (wrapped (rem_z x y)))
+computed Rem x y = pick (is_zero y) None (Some (wrapped (rem_z x y)))
 -- bit by bit
-computed And x y = Number (to_z w32 (bit_and (of_z w32 x) (of_z w32 y)))
-computed Or x y = Number (to_z w32 (bit_or (of_z w32 x) (of_z w32 y)))
-computed Xor x y = Number (to_z w32 (bit_xor (of_z w32 x) (of_z w32 y)))
+computed And x y = Some (to_z w32 (bit_and (of_z w32 x) (of_z w32 y)))
+computed Or x y = Some (to_z w32 (bit_or (of_z w32 x) (of_z w32 y)))
+computed Xor x y = Some (to_z w32 (bit_xor (of_z w32 x) (of_z w32 y)))
 -- left; right, filled with the sign; right, filled with zero
-computed Shl x y = Number (to_z w32 (of_z w32 x * 2 ^ shift_count y % 2 ^ 32))
-computed Shr x y = Number (shr_z x (2 ^ shift_count y))
-computed Ushr x y = Number (to_z w32 (of_z w32 x / 2 ^ shift_count y))
+computed Shl x y = Some (to_z w32 (of_z w32 x * 2 ^ shift_count y % 2 ^ 32))
+computed Shr x y = Some (shr_z x (2 ^ shift_count y))
+computed Ushr x y = Some (to_z w32 (of_z w32 x / 2 ^ shift_count y))
 
 -- the operations that divide: their second operand is a divisor
 abbrev pub divides : Operation → Bool

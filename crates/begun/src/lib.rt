@@ -2,87 +2,53 @@
 // are made zero, and the run is made, by the crates above.
 #![tactic(auto)]
 
-ghost use Rattle.std.specs.Prelude.{◌≡◌, min, ◌-◌, replicate};
+ghost use Rattle.std.specs.Prelude.{◌≡◌, replicate};
 ghost use Rattle.reader.specs.Read.{read_program, tables_after};
 ghost use Rattle.bounded.specs.Lent.{enough};
-ghost use Rattle.begun.specs.Begun.{start_run, refusal, started, begun_by, limit_halt, halt_of, pending_of, ran_to, ended_by};
+ghost use Rattle.begun.specs.Begun.{start_run, begun_by, outcome_of, limit_halt, halt_of, pending_of, ran_to};
 
-use bounded::{Outcome, Pending};
+use bounded::Outcome;
 use shift::{Run, Stop};
 use turn::{Halt, Status, Tally};
 
-// A refusal's number and line (23: too few are lent; 0: none), how many frames, objects and statics are to be made zero, and
-// the run to be made.
+// Why no run begins: the text is refused, or too few frames, objects or statics are lent.
 #[derive(Clone, Copy)]
-pub struct Beginning {
-    pub number: u8,
-    pub line: usize,
-    pub frames: usize,
-    pub objects: usize,
-    pub statics: usize,
-    pub run: Run,
+pub enum NotBegun {
+    // Stays: definition `begun_by` says a refusal by its number and line, as `read_program` does.
+    Refused { number: u8, line: usize },
+    Short,
 }
 
-// "n from 0 to 1,000,000 (more counts as that)"
-fn capped(n: u64) -> u64
-    ensures value { result ≡ min n 1000000 }
-{
-    if n < 1000000 { n } else { 1000000 }
+impl From<NotBegun> for Outcome {
+    ghost from_gives = { λ e x. x ≡ outcome_of e };
+
+    fn from(e: NotBegun) -> Self {
+        match e {
+            NotBegun::Refused { number, line } => Outcome::Refused { number, line },
+            NotBegun::Short => Outcome::Short,
+        }
+    }
 }
 
-// Whether so many are enough: 32 frames, 256 objects and 16 statics.
+// Whether so many are enough.
 fn suffices(frames: usize, objects: usize, statics: usize) -> bool
     ensures value { result ≡ enough frames objects statics }
 {
-    if frames < 32 {
-        return false;
-    }
-    if objects < 256 {
-        return false;
-    }
-    16 <= statics
+    32 <= frames && 256 <= objects && 16 <= statics
 }
 
 // The run at the start: so many steps may be made.
 fn start_run(left: u64) -> Run
     ensures value { result ≡ start_run left }
 {
-    let tally = Tally {
-        depth: 1,
-        made: 0,
-        status: Status::Running,
-    };
     Run {
         left,
-        tally,
-        stop: Stop::No,
-    }
-}
-
-// A refusal: nothing is made zero, and no step is made.
-fn refusal(number: u8, line: usize) -> Beginning
-    ensures value { result ≡ refusal number line }
-{
-    Beginning {
-        number,
-        line,
-        frames: 0,
-        objects: 0,
-        statics: 0,
-        run: start_run(0),
-    }
-}
-
-fn started(n: u64) -> Beginning
-    ensures value { result ≡ started n }
-{
-    Beginning {
-        number: 0,
-        line: 0,
-        frames: 32,
-        objects: 256,
-        statics: 16,
-        run: start_run(capped(n)),
+        tally: Tally {
+            depth: 1,
+            made: 0,
+            status: Status::Running,
+        },
+        stop: None,
     }
 }
 
@@ -95,95 +61,64 @@ pub fn begin(
     frames: usize,
     objects: usize,
     statics: usize,
-) -> Beginning
+) -> Result<Run, NotBegun>
     ensures begun { result ≡ begun_by (read_program text.now) n frames objects statics }
     ensures tables { t.new ≡ tables_after (read_program text.now) (replicate 768 0) }
 {
-    let read = reader::fill(text, &mut *t);
-    let number = reader::number_of(read);
-    if number != 0 {
-        return refusal(number, reader::line_of(read));
+    if let Err(refused) = reader::fill(text, &mut *t) {
+        return Err(NotBegun::Refused {
+            number: refused.number(),
+            line: refused.line(),
+        });
     }
     if suffices(frames, objects, statics) {
-        return started(n);
+        return Ok(start_run(n.min(1_000_000)));
     }
-    refusal(23, 0)
+    Err(NotBegun::Short)
 }
 
-// Why a run goes no further.
+// Why a run goes no further that nothing stopped.
 fn at_limit(status: Status) -> Halt
     ensures value { result ≡ limit_halt status }
 {
     match status {
-        Status::Running => Halt::StepsMade,
-        Status::Raised(o) => Halt::StepsMade,
+        Status::Running | Status::Raised(_) => Halt::StepsMade,
         Status::Done => Halt::Done,
-        Status::Uncaught(o) => Halt::Uncaught,
-        Status::Failed(e) => Halt::Faulted(e),
+        Status::Uncaught(_) => Halt::Uncaught,
+        Status::Failed(fault) => Halt::Faulted(fault),
     }
 }
 
 fn halt_of(k: Run) -> Halt
     ensures value { result ≡ halt_of k }
 {
-    let tally = k.tally;
-    let status = tally.status;
-    let stop = k.stop;
-    match stop {
-        Stop::No => at_limit(status),
-        Stop::Store => Halt::FullStore,
-        Stop::Stack => Halt::FullStack,
-        Stop::Outside => Halt::Outside,
+    match k.stop {
+        None => at_limit(k.tally.status),
+        Some(Stop::Store) => Halt::FullStore,
+        Some(Stop::Stack) => Halt::FullStack,
+        Some(Stop::Outside) => Halt::Outside,
     }
 }
 
-fn pending_of(status: Status) -> Pending
+fn pending_of(status: Status) -> Option<u32>
     ensures value { result ≡ pending_of status }
 {
     match status {
-        Status::Running => Pending::Nothing,
-        Status::Raised(o) => Pending::Object(o),
-        Status::Done => Pending::Nothing,
-        Status::Uncaught(o) => Pending::Object(o),
-        Status::Failed(e) => Pending::Nothing,
+        Status::Raised(o) | Status::Uncaught(o) => Some(o),
+        Status::Running | Status::Done | Status::Failed(_) => None,
     }
 }
 
-// The steps made: so many might be, and so many still may.
-fn made_of(limit: u64, left: u64) -> u64
-    ensures value { result ≡ limit - left }
+// The answer, from the run at the start and in the end.
+pub fn ended(first: Run, last: Run) -> Outcome
+    ensures value { result ≡ ran_to first last }
 {
-    if left < limit { limit - left } else { 0 }
-}
-
-fn ran_to(b: Beginning, k: Run) -> Outcome
-    ensures value { result ≡ ran_to b k }
-{
-    let run = b.run;
-    let tally = k.tally;
-    let status = tally.status;
+    let tally = last.tally;
     Outcome::Ran {
-        halt: halt_of(k),
-        steps: made_of(run.left, k.left),
+        halt: halt_of(last),
+        steps: first.left.saturating_sub(last.left),
         frames: tally.depth,
         objects: tally.made,
-        pending: pending_of(status),
-    }
-}
-
-// The answer, from how it began and the run that was made.
-pub fn ended(b: Beginning, k: Run) -> Outcome
-    ensures value { result ≡ ended_by b k }
-{
-    let number = b.number;
-    if number == 23 {
-        return Outcome::Short;
-    }
-    if number == 0 {
-        return ran_to(b, k);
-    }
-    Outcome::Refused {
-        number,
-        line: b.line,
+        pending: pending_of(tally.status),
     }
 }

@@ -1,6 +1,7 @@
 -- A number and values are those of one outcome only. Assumes nothing.
 use mathlib.Core.Path.{◌≡◌, refl, sym, ap, ◌∙◌}
 use mathlib.Core.List.{◌∷◌}
+use Rattle.std.specs.Prelude.{Option, Some, None}
 use Prim.Native.Nat.{ℕ}
 use lib.Dec.{eqb, ltb}
 use lib.ListN.{length}
@@ -14,18 +15,16 @@ use Rattle.turn.specs.declared.Halt.TheVariants.{Done, Uncaught, Faulted, FullSt
 use Rattle.turn.specs.Stop.{halt_number}
 use Rattle.bounded.specs.declared.Outcome.{Outcome}
 use Rattle.bounded.specs.declared.Outcome.TheVariants.{Refused, Short, Ran}
-use Rattle.bounded.specs.declared.Pending.{Pending}
-use Rattle.bounded.specs.declared.Pending.TheVariants.{Nothing, Object}
 use Rattle.bounded.specs.Bounded.{Stopped}
 use Rattle.bounded.specs.Step.{Stepping, turned_down, short, ran, stepping_number, stepping_values, pending_in, pending_values, number_of, values_of}
 
 -- the pending object of a status, and the outcome of each answer
-abbrev pub pending_for : Status → Pending
-pending_for running = Nothing
-pending_for (raised o) = Object o
-pending_for done = Nothing
-pending_for (uncaught o) = Object o
-pending_for (failed e) = Nothing
+abbrev pub pending_for : Status → Option ℕ
+pending_for running = None
+pending_for (raised o) = Some o
+pending_for done = None
+pending_for (uncaught o) = Some o
+pending_for (failed e) = None
 
 abbrev pub outcome_for : Stepping → Outcome
 outcome_for (turned_down number line) = Refused number line
@@ -65,20 +64,20 @@ same_halt : (h k : Halt) → halt_number h ≡ halt_number k → h ≡ k
 same_halt h k e = sym (halt_back h) ∙ ap halt_from e ∙ halt_back k
 
 -- ---- a pending object from its values
-same_pending : (p : Pending) (e : Status) → pending_values p ≡ pending_in e → p ≡ pending_for e
-same_pending Nothing running v = refl
-same_pending Nothing (raised o) v = never (cc)
-same_pending Nothing done v = refl
-same_pending Nothing (uncaught o) v = never (cc)
-same_pending Nothing (failed e) v = refl
-same_pending (Object o) running v = never (cc)
-same_pending (Object o) (raised k) v = cc
-same_pending (Object o) done v = never (cc)
-same_pending (Object o) (uncaught k) v = cc
-same_pending (Object o) (failed e) v = never (cc)
+same_pending : (p : Option ℕ) (e : Status) → pending_values p ≡ pending_in e → p ≡ pending_for e
+same_pending None running v = refl
+same_pending None (raised o) v = never (cc)
+same_pending None done v = refl
+same_pending None (uncaught o) v = never (cc)
+same_pending None (failed e) v = refl
+same_pending (Some o) running v = never (cc)
+same_pending (Some o) (raised k) v = cc
+same_pending (Some o) done v = never (cc)
+same_pending (Some o) (uncaught k) v = cc
+same_pending (Some o) (failed e) v = never (cc)
 
 -- ---- the outcome
-ran_is : (x : Stopped) (h : Halt) (k f o : ℕ) (p : Pending) → halt_number h ≡ halt_number x.halt
+ran_is : (x : Stopped) (h : Halt) (k f o : ℕ) (p : Option ℕ) → halt_number h ≡ halt_number x.halt
     → k ∷ f ∷ o ∷ pending_values p ≡ x.count ∷ length x.state.frames ∷ length x.state.objects ∷ pending_in x.state.status
     → Ran h k f o p ≡ outcome_for (ran x)
 ran_is x h k f o p e v =

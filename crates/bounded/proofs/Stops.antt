@@ -3,16 +3,15 @@
 use mathlib.Core.Path.{◌≡◌, refl, ap, ◌∙◌}
 use mathlib.Core.Bool.{Bool, true, false}
 use mathlib.Core.List.{List, [], ◌∷◌}
-use mathlib.Core.Option.{Option, none, some}
+use mathlib.Core.Option as maybe
 use Prim.Native.Nat.{ℕ, ◌≤◌, ◌<◌}
 use native.Mathlib.Omega.{arith}
 use lib.Dec.{ltb}
 use lib.ListN.{length, length-append, length-set}
 use borrow.Author.Tests.{ltb-true, ltb-false, le-ltb}
+use Rattle.std.specs.Prelude.{Option, Some, None}
 use Rattle.instruction.specs.Word.{pick}
 use Rattle.program.specs.Program.{Program, code_length}
-use Rattle.search.specs.declared.Handling.{Handling}
-use Rattle.search.specs.declared.Handling.TheVariants as handling
 use Rattle.machine.specs.declared.Effect.{Effect}
 use Rattle.machine.specs.declared.Effect.TheVariants.{Next, Jump, Write, Load, LoadStatic, Make, Store, StoreStatic, Call, Exit, Raise}
 use Rattle.machine.specs.declared.Effect.TheVariants.{RaiseNew, Fail}
@@ -74,16 +73,16 @@ abbrev pub Kept : State → Type 0
 Kept s = (length s.frames ≤ 32) × (length s.objects ≤ 256) × Framed s.status s.frames
 
 -- t is the state after the step, which nothing stops or an answer does
-abbrev Judged : Program → ℕ → ℕ → State → State → Option Halt → Type 0
-Judged p n k s t none = Kept s → Kept t
-Judged p n k s t (some h) = Says p n k s h
+abbrev Judged : Program → ℕ → ℕ → State → State → maybe.Option Halt → Type 0
+Judged p n k s t maybe.none = Kept s → Kept t
+Judged p n k s t (maybe.some h) = Says p n k s h
 
 module _ (p : Program) (n k : ℕ) (s : State) where
   -- u is the state after an effect that makes an object
   making_judged : (f : Frame) (rest : List Frame) → At p s running f rest → Makes (effect_at p s f) → (u : State)
-      → (length s.objects < 256 → Kept s → Kept u) → Judged p n k s u (pick (ltb (length s.objects) 256) none (some FullStore))
+      → (length s.objects < 256 → Kept s → Kept u) → Judged p n k s u (pick (ltb (length s.objects) 256) maybe.none (maybe.some FullStore))
   making_judged f rest at makes u kept =
-      pick_cases (Judged p n k s u) (ltb (length s.objects) 256) none (some FullStore)
+      pick_cases (Judged p n k s u) (ltb (length s.objects) 256) maybe.none (maybe.some FullStore)
       (λ l. kept (ltb-true (length s.objects) 256 l))
       (λ l. (record { frame = f; rest = rest; at = at; effect = makes }, ltb-false (length s.objects) 256 l))
 
@@ -100,7 +99,7 @@ module _ (p : Program) (n k : ℕ) (s : State) where
       omega (arith, ap length at.frames, length-set s.objects o (stored (object_at s o) x v))
   effect_judged f rest at (StoreStatic x v) h = omega (arith, ap length at.frames)
   effect_judged f rest at (Call m c) h =
-      pick_cases (Judged p n k s (apply p s f rest (Call m c))) (ltb (length s.frames) 32) none (some FullStack)
+      pick_cases (Judged p n k s (apply p s f rest (Call m c))) (ltb (length s.frames) 32) maybe.none (maybe.some FullStack)
       (λ l. omega (arith, ap length at.frames, ltb-true (length s.frames) 32 l))
       (λ l.
       (record { frame = f; rest = rest; callee = m; first = c; at = at; effect = h }, ltb-false (length s.frames) 32 l))
@@ -112,15 +111,15 @@ module _ (p : Program) (n k : ℕ) (s : State) where
       (λ l kept. (kept.0, omega (arith, length-append s.objects (fresh p c ∷ []), l), rw at.frames tt))
   effect_judged f rest at (Fail e) h = λ kept. (kept.0, kept.1, rw at.frames tt)
 
-  unwound_judged : (f : Frame) (rest : List Frame) (o : ℕ) → At p s (raised o) f rest → (h : Handling) → Judged p n k s (unwound p s f rest o h) none
-  unwound_judged f rest o at (handling.Caught h) = omega (arith, ap length at.frames)
-  unwound_judged f [] o at handling.Uncaught = λ kept. (omega arith, kept.1, refl)
-  unwound_judged f (g ∷ rest) o at handling.Uncaught = omega (arith, ap length at.frames)
+  unwound_judged : (f : Frame) (rest : List Frame) (o : ℕ) → At p s (raised o) f rest → (h : Option ℕ) → Judged p n k s (unwound p s f rest o h) maybe.none
+  unwound_judged f rest o at (Some h) = omega (arith, ap length at.frames)
+  unwound_judged f [] o at None = λ kept. (omega arith, kept.1, refl)
+  unwound_judged f (g ∷ rest) o at None = omega (arith, ap length at.frames)
 
   -- inside its method a frame is judged by what is done there
-  inside_judged : (e : Status) (f : Frame) (rest : List Frame) (t : State) (o : Option Halt) → s.status ≡ e → s.frames ≡ f ∷ rest → ¬ Ended e
+  inside_judged : (e : Status) (f : Frame) (rest : List Frame) (t : State) (o : maybe.Option Halt) → s.status ≡ e → s.frames ≡ f ∷ rest → ¬ Ended e
       → (At p s e f rest → Judged p n k s t o)
-      → (b : Bool) → ltb f.address (code_length p f.method) ≡ b → Judged p n k s (pick b t s) (pick b o (some Outside))
+      → (b : Bool) → ltb f.address (code_length p f.method) ≡ b → Judged p n k s (pick b t s) (pick b o (maybe.some Outside))
   inside_judged e f rest t o status frames goes h true l =
       h (record { status = status; frames = frames; inside = ltb-true f.address (code_length p f.method) l })
   inside_judged e f rest t o status frames goes h false l =
@@ -135,7 +134,7 @@ module _ (p : Program) (n k : ℕ) (s : State) where
       refl
   judged_by (raised o) [] status frames = (rw frames tt, rw status (λ e. e))
   judged_by (raised o) (f ∷ rest) status frames =
-      inside_judged (raised o) f rest (unwound p s f rest o (handling_at p s f o)) none status frames (λ e. e)
+      inside_judged (raised o) f rest (unwound p s f rest o (handling_at p s f o)) maybe.none status frames (λ e. e)
       (λ at. unwound_judged f rest o at (handling_at p s f o))
       (ltb f.address (code_length p f.method))
       refl
@@ -147,18 +146,18 @@ module _ (p : Program) (n k : ℕ) (s : State) where
   unfolding step stop_of
   judged = judged_by s.status s.frames refl refl
 
-  pub stop_says : (h : Halt) → stop_of p s ≡ some h → Says p n k s h
+  pub stop_says : (h : Halt) → stop_of p s ≡ maybe.some h → Says p n k s h
   stop_says h e = rw e at judged
 
-  pub step_kept : stop_of p s ≡ none → Kept s → Kept (step p s)
+  pub step_kept : stop_of p s ≡ maybe.none → Kept s → Kept (step p s)
   step_kept e = rw e at judged
 
 -- and where an object would be made at 256 objects, 20 it is
-full_room : (s : State) (e : Effect) → Makes e → 256 ≤ length s.objects → room s e ≡ some FullStore
+full_room : (s : State) (e : Effect) → Makes e → 256 ≤ length s.objects → room s e ≡ maybe.some FullStore
 full_room s e (by_new to class q) l = rw (q, le-ltb (length s.objects) 256 l)
 full_room s e (by_raise class q) l = rw (q, le-ltb (length s.objects) 256 l)
 
-pub full_stops : (p : Program) (s : State) → Making p s → 256 ≤ length s.objects → stop_of p s ≡ some FullStore
+pub full_stops : (p : Program) (s : State) → Making p s → 256 ≤ length s.objects → stop_of p s ≡ maybe.some FullStore
 full_stops p s m l =
     running_stop p s m.frame m.rest m.at ∙ full_room s (effect_at p s m.frame) m.effect l
 
@@ -174,14 +173,14 @@ module _ (p : Program) (n : ℕ) (s : State) where
   limit_says = limit_by s.status refl
 
 module _ (p : Program) (s : State) where
-  ended_by_lem : (e : Status) (fs : List Frame) → Ended e → stop_by p s e fs ≡ some (at_limit e)
+  ended_by_lem : (e : Status) (fs : List Frame) → Ended e → stop_by p s e fs ≡ maybe.some (at_limit e)
   ended_by_lem running fs end = absurd end
   ended_by_lem (raised o) fs end = absurd end
   ended_by_lem done fs end = refl
   ended_by_lem (uncaught o) fs end = refl
   ended_by_lem (failed e) fs end = refl
 
-  pub ended_stops : Ended s.status → stop_of p s ≡ some (at_limit s.status)
+  pub ended_stops : Ended s.status → stop_of p s ≡ maybe.some (at_limit s.status)
   unfolding stop_of
   ended_stops = ended_by_lem s.status s.frames
 

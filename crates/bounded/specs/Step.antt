@@ -1,5 +1,5 @@
 -- What `step` answers, and what lent memory then holds. Definitions only.
-use Rattle.std.specs.Prelude.{Bool, ◌&&◌, List, [], ◌∷◌, ℕ, leb, length}
+use Rattle.std.specs.Prelude.{Bool, ◌&&◌, List, [], ◌∷◌, ℕ, leb, length, Option, Some, None}
 use Rattle.instruction.specs.Word.{pick}
 use Rattle.reader.specs.Read.{Reading, refused, taken, read_program, tables_after}
 use Rattle.machine.specs.State.{Status, running, raised, done, uncaught, failed}
@@ -7,8 +7,6 @@ use Rattle.memory.specs.Memory.{frames_of, objects_of, statics_of}
 use Rattle.turn.specs.Stop.{halt_number}
 use Rattle.bounded.specs.declared.Outcome.{Outcome}
 use Rattle.bounded.specs.declared.Outcome.TheVariants.{Refused, Short, Ran}
-use Rattle.bounded.specs.declared.Pending.{Pending}
-use Rattle.bounded.specs.declared.Pending.TheVariants.{Nothing, Object}
 use Rattle.bounded.specs.Bounded.{Stopped, bounded}
 
 -- a text is refused, memory falls short, or the program ran
@@ -82,9 +80,9 @@ number_of (Refused number line) = number
 number_of Short = 23
 number_of (Ran halt steps frames objects pending) = halt_number halt
 
-abbrev pub pending_values : Pending → List ℕ
-pending_values Nothing = []
-pending_values (Object o) = o ∷ []
+abbrev pub pending_values : Option ℕ → List ℕ
+pending_values None = []
+pending_values (Some o) = o ∷ []
 
 abbrev pub values_of : Outcome → List ℕ
 values_of (Refused number line) = line ∷ []

@@ -3,17 +3,11 @@
 
 use turn::Halt;
 
-// The object that is pending, if there is one.
-#[derive(Clone, Copy)]
-pub enum Pending {
-    Nothing,
-    Object(u32),
-}
-
 // What became of a text: it is refused, memory falls short, or the program ran and stopped, with the steps made, how many
-// frames are open, how many objects are made, and the pending object.
+// frames are open, how many objects are made, and the pending object if there is one.
 #[derive(Clone, Copy)]
 pub enum Outcome {
+    // Stays: the papers' number of a refusal, which is printed and given to C by `number_of` and `values_of`.
     Refused {
         number: u8,
         line: usize,
@@ -24,6 +18,6 @@ pub enum Outcome {
         steps: u64,
         frames: u8,
         objects: u32,
-        pending: Pending,
+        pending: Option<u32>,
     },
 }

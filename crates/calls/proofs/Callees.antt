@@ -1,6 +1,6 @@
 -- The callees that the rules numbered 6 name at an address, by the instruction there. Assumes nothing.
 use mathlib.Core.Path.{◌≡◌, refl, sym, ap, ◌∙◌}
-use mathlib.Core.Bool.{true, false, ◌&&◌, ◌||◌}
+use mathlib.Core.Bool.{true, false, ◌&&◌}
 use Prim.Native.Nat.{ℕ, ◌<◌}
 use native.Mathlib.Decide.{ℕ_discrete}
 use lib.Dec.{eqb, ltb}
@@ -9,7 +9,7 @@ use Rattle.instruction.specs.declared.Instruction.{Instruction}
 use Rattle.instruction.specs.declared.Instruction.TheVariants.{Nop, Move, Const, Goto, If, IfZero, Binop, Unop, NewInstance, Iget, Iput, Sget, Sput, InvokeVirtual, InvokeStatic, MoveResult, MoveException, Return, ReturnVoid, Throw, InstanceOf, CheckCast}
 use Rattle.mask.specs.declared.Mask.{Mask}
 use Rattle.mask.specs.Mask.{has}
-use Rattle.mask.proofs.Sets.{or_end, no_bit}
+use Rattle.mask.proofs.Sets.{or_end}
 use Rattle.program.specs.Program.{Program, instruction_at}
 use Rattle.flow.specs.Claim.{register_at, Claim}
 use Rattle.flow.specs.Rules.{rules_of, rules_at}
@@ -17,8 +17,8 @@ use Rattle.flow.specs.Calls.{called_by}
 use Rattle.sets.specs.Sets.{leads_to}
 
 -- the bit of number b in a mask that has no other, below 64
-pub one_bit : (r : Mask) (b q : ℕ) → ((k : ℕ) → has r k ≡ has (record { bits = 0 }) k || (eqb k b && ltb k 64)) → q < 64 → has r q ≡ eqb b q
-one_bit r b q bits l = bits q ∙ rw (no_bit q, lt-ltb q 64 l) (by (ℕ_discrete q b))
+pub one_bit : (r : Mask) (b q : ℕ) → ((k : ℕ) → has r k ≡ eqb k b && ltb k 64) → q < 64 → has r q ≡ eqb b q
+one_bit r b q bits l = bits q ∙ rw (lt-ltb q 64 l) (by (ℕ_discrete q b))
   where
     by : Dec (q ≡ b) → eqb q b && true ≡ eqb b q
     by (yes same) = rw (eq-eqb q b same, eq-eqb b q (sym same))

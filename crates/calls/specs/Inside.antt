@@ -1,5 +1,5 @@
--- The parts of the call list, and where they are written, for inner functions. Definitions only.
-use Rattle.std.specs.Prelude.{◌≡◌, Bool, List, [], ◌∷◌, ℕ, ◌+◌, ◌*◌, length}
+-- The parts of the call list, for inner functions. Definitions only.
+use Rattle.std.specs.Prelude.{Bool, List, [], ◌∷◌, ℕ}
 use Rattle.instruction.specs.Word.{pick}
 use Rattle.program.specs.Program.{Program, method_count, code_length}
 use Rattle.program.specs.Lists.{joined}
@@ -7,7 +7,6 @@ use Rattle.machine.specs.History.{Made}
 use Rattle.flow.specs.Claim.{Claim}
 use Rattle.flow.specs.Rules.{rules_at}
 use Rattle.flow.specs.Calls.{called_by}
-use Rattle.calls.specs.Bytes.{put_calls}
 
 -- the call to method q at an address, if q is called there
 abbrev pub call_if : Bool → ℕ → ℕ → ℕ → List Made
@@ -23,8 +22,3 @@ address_calls p c m pc = joined (method_count p) (calls_to p c m pc)
 
 abbrev pub method_calls : Program → Claim → ℕ → List Made
 method_calls p c m = joined (code_length p m) (address_calls p c m)
-
--- calls are written from byte `at` on, and the next goes to byte `to`
-pub record Written (calls : List Made) (at : ℕ) (before : List ℕ) (to : ℕ) (after : List ℕ) : Type 0 where
-  pub end : to ≡ at + 3 * length calls
-  pub bytes : after ≡ put_calls calls at before

@@ -8,11 +8,10 @@ use borrow.Author.Tests.{ltb-true, ltb-false, lt-ltb, le-ltb}
 use lib.Dec.{ltb}
 use Rattle.text.proofs.Cases.{by_test, both_true}
 use Rattle.mask.specs.declared.Mask.{Mask}
-use Rattle.mask.specs.Mask.{has, every, subset}
+use Rattle.mask.specs.Mask.{has, every, is_empty, subset}
 use Rattle.mask.proofs.Laws.{and_false, every_at, every_same, subset_all}
-use Rattle.mask.proofs.Sets.{no_bit}
 use Rattle.flow.specs.Claim.{register_at}
-use Rattle.slots.specs.Layout.{claim_size, row_of, place_of, mask_of, mask_at, claim_in}
+use Rattle.slots.specs.Layout.{claim_size, row_of, place_of, mask_at, claim_in}
 use Rattle.slots.proofs.Places.{row_in_lem}
 use Rattle.carry.specs.Carried.{word_in, row_in, row_flows}
 
@@ -29,7 +28,7 @@ every_and (suc n) f g =
     ∙ and_four (f zero) (g zero) (every n (λ k. f (suc k))) (every n (λ k. g (suc k)))
 
 -- one bit: of those gathered before, of a word, of the other's
-bit_more : (o x y : Bool) → not (o || (x && not y)) || false ≡ (not o || false) && (not x || y)
+bit_more : (o x y : Bool) → not (o || (x && not y)) ≡ not o && (not x || y)
 bit_more true x y = refl
 bit_more false true true = refl
 bit_more false true false = refl
@@ -37,12 +36,12 @@ bit_more false false y = refl
 
 -- with the bits of one mask that are not in another gathered too, there is none where there was none before and the one is in the other
 pub gathered : (out x y more all : Mask) → ((k : ℕ) → has more k ≡ has x k && not (has y k))
-    → ((k : ℕ) → has all k ≡ has out k || has more k) → subset all (mask_of 0) ≡ subset out (mask_of 0) && subset x y
-unfolding subset
+    → ((k : ℕ) → has all k ≡ has out k || has more k) → is_empty all ≡ is_empty out && subset x y
+unfolding is_empty subset
 gathered out x y more all d e =
-    every_same 64 (λ k. not (has all k) || has (mask_of 0) k) (λ k. (not (has out k) || has (mask_of 0) k) && (not (has x k) || has y k))
-    (λ k l. rw (e k, d k, no_bit k) (bit_more (has out k) (has x k) (has y k)))
-    ∙ every_and 64 (λ k. not (has out k) || has (mask_of 0) k) (λ k. not (has x k) || has y k)
+    every_same 64 (λ k. not (has all k)) (λ k. not (has out k) && (not (has x k) || has y k))
+    (λ k l. rw (e k, d k) (bit_more (has out k) (has x k) (has y k)))
+    ∙ every_and 64 (λ k. not (has out k)) (λ k. not (has x k) || has y k)
 
 -- ---- registers
 register_word : (ws : List ℕ) (m pc r : ℕ) → r < 16 → claim_in ws (register_at m pc r) ≡ mask_at ws (row_of m pc + r)
@@ -56,20 +55,6 @@ register_past ws m pc r l = rw (le-ltb r 16 l)
 -- the registers of a row lie inside the words
 pub row_inside : (m pc : ℕ) → m < 16 → pc < 32 → row_of m pc + 16 ≤ claim_size
 row_inside m pc l h = omega (arith, row_in_lem m pc l h)
-
--- what `row_flows` answers: of two rows that a method has, and where there is none
-pub rows_in : (b : Bool) (ws : List ℕ) (m pc to x y : ℕ) → m < 16 → pc < 32 → to < 32 → b ≡ row_in ws x y → x ≡ row_of m pc → y ≡ row_of m to
-    → b ≡ row_flows ws m pc to
-rows_in b ws m pc to x y l h k e f g = rw (lt-ltb m 16 l, lt-ltb pc 32 h, lt-ltb to 32 k, ← f, ← g) e
-
-pub no_target : (ws : List ℕ) (m pc to : ℕ) → 32 ≤ to → false ≡ row_flows ws m pc to
-no_target ws m pc to l = rw (le-ltb to 32 l) (sym (ap (◌&&◌ (ltb m 16)) (and_false (ltb pc 32)) ∙ and_false (ltb m 16)))
-
-pub no_address : (ws : List ℕ) (m pc to : ℕ) → 32 ≤ pc → false ≡ row_flows ws m pc to
-no_address ws m pc to l = rw (le-ltb pc 32 l) (sym (and_false (ltb m 16)))
-
-pub no_method_lem : (ws : List ℕ) (m pc to : ℕ) → 16 ≤ m → false ≡ row_flows ws m pc to
-no_method_lem ws m pc to l = rw (le-ltb m 16 l) refl
 
 -- where a row is in another, all registers are: any past the 16 lies past the last word at both addresses
 pub registers_in_lem : (ws : List ℕ) (m pc to : ℕ) → row_flows ws m pc to ≡ true → (r : ℕ)

@@ -6,8 +6,7 @@ use native.Mathlib.Omega.{arith}
 use lib.Dec.{eqb}
 use borrow.Author.Tests.{ne_eqb}
 use Rattle.instruction.proofs.Flags.{or_right}
-use Rattle.mask.specs.declared.Mask.{Mask}
-use Rattle.mask.specs.Mask.{has, every, subset}
+use Rattle.mask.specs.Mask.{every}
 use Rattle.mask.proofs.Laws.{every_all, every_same}
 
 -- a guard that passes asks, one that fails does not
@@ -37,10 +36,3 @@ and_passed a b s t passed e f = rw (sym e, passed) f
 
 pub and_failed : (a s t : Bool) → a ≡ false → a ≡ s → false ≡ s && t
 and_failed a s t failed e = rw (sym e, failed)
-
--- the answer about masks that were read is that about the slots
-pub subset_of : (b : Bool) (from into s t : Mask) → b ≡ subset from into → from ≡ s → into ≡ t → b ≡ subset s t
-subset_of b from into s t e f g = e ∙ ap (λ (x : Mask). subset x into) f ∙ ap (λ (x : Mask). subset s x) g
-
-pub has_of : (b : Bool) (m s : Mask) (k : ℕ) → b ≡ has m k → m ≡ s → b ≡ has s k
-has_of b m s k e f = e ∙ ap (λ (x : Mask). has x k) f

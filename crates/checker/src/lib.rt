@@ -23,15 +23,14 @@ fn judge(t: &[u64; 768], w: &[u64; 9712], memory: &mut [u8]) -> Verdict
     if memory.len() < 24576 {
         return Verdict::Short;
     }
-    let broken = rules::first_broken(t, w);
-    if broken.rule != rules::NO_RULE {
-        return Verdict::Violated {
+    match rules::first_broken(t, w) {
+        Some(broken) => Verdict::Violated {
             rule: broken.rule,
             method: broken.method,
             address: broken.address,
-        };
+        },
+        None => Verdict::Accepted(calls::write_calls(t, w, memory)),
     }
-    Verdict::Accepted(calls::write_calls(t, w, memory))
 }
 
 // The verdict on a claim's text, by way of words for its masks.
@@ -43,12 +42,10 @@ fn check_claim(t: &[u64; 768], claim: &[u8], w: &mut [u64; 9712], memory: &mut [
         let x = with_claim p (length memory.old) (read_claim p claim.now) in
         memory.new ≡ memory_after x memory.old }
 {
-    let read = claim::fill(t, claim, &mut *w);
-    let number = claim::number_of(read);
-    if number != 0 {
+    if let Err(refused) = claim::fill(t, claim, &mut *w) {
         return Verdict::Refused {
-            number: number as usize,
-            line: claim::line_of(read),
+            number: refused.number() as usize,
+            line: refused.line(),
         };
     }
     judge(t, w, memory)
@@ -73,12 +70,10 @@ fn check_by(program: &[u8], claim: &[u8], t: &mut [u64; 768], memory: &mut [u8])
     ensures memory { let x = checking program.now claim.now (length memory.old) in
         memory.new ≡ memory_after x memory.old }
 {
-    let read = reader::fill(program, &mut *t);
-    let number = reader::number_of(read);
-    if number != 0 {
+    if let Err(refused) = reader::fill(program, &mut *t) {
         return Verdict::Refused {
-            number: number as usize,
-            line: reader::line_of(read),
+            number: refused.number() as usize,
+            line: refused.line(),
         };
     }
     check_tables(t, claim, memory)

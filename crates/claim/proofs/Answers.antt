@@ -1,27 +1,16 @@
--- What the claim reader's answer says of its reading: the line of a refusal, and the masks where there is none. Assumes nothing.
+-- What the claim reader's answer says of its reading: its number and line where it is refused, else that there are masks. Assumes nothing.
 use mathlib.Core.Path.{◌≡◌, refl}
 use mathlib.Core.List.{List, [], ◌∷◌}
 use Prim.Native.Nat.{ℕ}
-use native.Mathlib.Omega.{arith}
 use Rattle.text.proofs.Cases.{never}
-use Rattle.claim.specs.declared.Answer.{Answer}
-use Rattle.claim.specs.declared.Answer.TheVariants.{Read, TooLong, BadLine, UnknownKind, NotDue, BadBit}
-use Rattle.claim.specs.ReadClaim.{Reading, refused, taken, reading_values, number_of, values_of, line_of}
+use Rattle.claim.specs.declared.Refusal.{Refusal}
+use Rattle.claim.specs.ReadClaim.{Reading, refused, taken, reading_values, reading_number, refusal_number, refusal_line}
 
-pub line_is : (a : Answer) → (number_of a ≡ 0 → ⊥) → values_of a ≡ line_of a ∷ []
-line_is Read d = absurd (d refl)
-line_is TooLong d = refl
-line_is (BadLine line) d = refl
-line_is (UnknownKind line) d = refl
-line_is (NotDue line) d = refl
-line_is (BadBit line) d = refl
+pub refused_is : (x : Reading) (r : Refusal) → refusal_number r ≡ reading_number x → refusal_line r ∷ [] ≡ reading_values x
+    → x ≡ refused (refusal_number r) (refusal_line r)
+refused_is (refused number line) r e v = cc
+refused_is (taken ws) r e v = never (cc)
 
-pub found_masks : {P : Type 0} (x : Reading) (a : Answer) → number_of a ≡ 0 → values_of a ≡ reading_values x
-    → ((ws : List ℕ) → x ≡ taken ws → P) → P
-found_masks (taken ws) a e v k = k ws refl
-found_masks (refused number line) Read e v k = never (cc)
-found_masks (refused number line) TooLong e v k = absurd (omega arith)
-found_masks (refused number line) (BadLine l) e v k = absurd (omega arith)
-found_masks (refused number line) (UnknownKind l) e v k = absurd (omega arith)
-found_masks (refused number line) (NotDue l) e v k = absurd (omega arith)
-found_masks (refused number line) (BadBit l) e v k = absurd (omega arith)
+pub found_masks : {P : Type 0} (x : Reading) → [] ≡ reading_values x → ((ws : List ℕ) → x ≡ taken ws → P) → P
+found_masks (taken ws) v k = k ws refl
+found_masks (refused number line) v k = never (cc)

@@ -11,8 +11,8 @@ use Rattle.program.specs.Program.{Program, class_count, registers}
 use Rattle.search.specs.Search.{has_field}
 use Rattle.flow.specs.Claim.{Slot, register_at, result_at, field_of, static_of, returned_by, leaving}
 use Rattle.slots.specs.Layout.{place_of, mask_of}
-use Rattle.claim.specs.declared.Answer.{Answer}
-use Rattle.claim.specs.declared.Answer.TheVariants.{BadLine, UnknownKind, NotDue, BadBit}
+use Rattle.claim.specs.declared.Refusal.{Refusal}
+use Rattle.claim.specs.declared.Refusal.TheVariants.{BadLine, UnknownKind, NotDue, BadBit}
 use Rattle.claim.specs.declared.Part.{Part}
 use Rattle.claim.specs.declared.Part.TheVariants.{Address, Field, Static, Returned, Leaving}
 use Rattle.claim.specs.declared.Frame.{Frame}
@@ -112,8 +112,8 @@ abbrev pub last_number : List Line → ℕ
 last_number [] = 0
 last_number (l ∷ ls) = pick (whole l) (pick (known l) 12 11) 10
 
--- the answer of a refusal's number, 10 to 13
-abbrev pub answer_of : ℕ → ℕ → Answer
-answer_of number line =
+-- the refusal of a number, 10 to 13
+abbrev pub refusal_of : ℕ → ℕ → Refusal
+refusal_of number line =
     pick (eqb number 10) (BadLine line)
     (pick (eqb number 11) (UnknownKind line) (pick (eqb number 12) (NotDue line) (BadBit line)))

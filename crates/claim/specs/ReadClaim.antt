@@ -1,5 +1,5 @@
 -- What a claim text says of a program: a claim, or a refusal with its number and line. Definitions only.
-use Rattle.std.specs.Prelude.{Bool, true, ◌&&◌, List, [], ◌∷◌, ℕ, ◌+◌, ◌*◌, eqb, ltb, leb, length, take, drop, set}
+use Rattle.std.specs.Prelude.{Result, Ok, Err, ⊤, Bool, true, ◌&&◌, List, [], ◌∷◌, ℕ, ◌+◌, ◌*◌, eqb, ltb, leb, length, take, drop, set}
 use Rattle.std.proofs.Math.Option.{Option, none, some}
 use Rattle.text.specs.Hex.{Line, lines_of, whole, number_of as hex_of}
 use Rattle.instruction.specs.Word.{pick}
@@ -7,8 +7,8 @@ use Rattle.mask.specs.Mask.{subset}
 use Rattle.program.specs.Program.{Program}
 use Rattle.flow.specs.Claim.{Slot}
 use Rattle.slots.specs.Layout.{place_of, mask_of, no_masks}
-use Rattle.claim.specs.declared.Answer.{Answer}
-use Rattle.claim.specs.declared.Answer.TheVariants.{Read, TooLong, BadLine, UnknownKind, NotDue, BadBit}
+use Rattle.claim.specs.declared.Refusal.{Refusal}
+use Rattle.claim.specs.declared.Refusal.TheVariants.{TooLong, BadLine, UnknownKind, NotDue, BadBit}
 use Rattle.claim.specs.Allowed.{full_claim}
 use Rattle.claim.specs.Frames.{Due, frames_due}
 
@@ -96,28 +96,31 @@ abbrev pub masks_after : Reading → List ℕ → List ℕ
 masks_after (refused number line) before = before
 masks_after (taken ws) before = ws
 
--- document 01's number of each answer, and its values
-abbrev pub number_of : Answer → ℕ
-number_of Read = 0
-number_of TooLong = 9
-number_of (BadLine line) = 10
-number_of (UnknownKind line) = 11
-number_of (NotDue line) = 12
-number_of (BadBit line) = 13
+-- document 01's number of each refusal, and its line
+abbrev pub refusal_number : Refusal → ℕ
+refusal_number TooLong = 9
+refusal_number (BadLine line) = 10
+refusal_number (UnknownKind line) = 11
+refusal_number (NotDue line) = 12
+refusal_number (BadBit line) = 13
 
-abbrev pub values_of : Answer → List ℕ
-values_of Read = []
-values_of TooLong = 0 ∷ []
-values_of (BadLine line) = line ∷ []
-values_of (UnknownKind line) = line ∷ []
-values_of (NotDue line) = line ∷ []
-values_of (BadBit line) = line ∷ []
+abbrev pub refusal_line : Refusal → ℕ
+refusal_line TooLong = 0
+refusal_line (BadLine line) = line
+refusal_line (UnknownKind line) = line
+refusal_line (NotDue line) = line
+refusal_line (BadBit line) = line
+
+-- the number of what became of a text, 0 where it is read, and its values
+abbrev pub number_of : Result ⊤ Refusal → ℕ
+number_of (Ok done) = 0
+number_of (Err refusal) = refusal_number refusal
+
+abbrev pub values_of : Result ⊤ Refusal → List ℕ
+values_of (Ok done) = []
+values_of (Err refusal) = refusal_line refusal ∷ []
 
 -- the line of a refusal, 0 where there is none
-abbrev pub line_of : Answer → ℕ
-line_of Read = 0
-line_of TooLong = 0
-line_of (BadLine line) = line
-line_of (UnknownKind line) = line
-line_of (NotDue line) = line
-line_of (BadBit line) = line
+abbrev pub line_of : Result ⊤ Refusal → ℕ
+line_of (Ok done) = 0
+line_of (Err refusal) = refusal_line refusal

@@ -6,6 +6,7 @@ ghost use Rattle.claim.specs.Frames.{outer, inner};
 ghost use Rattle.claim.specs.Inside.{present, class_bits, frame_of};
 
 use super::{Frame, Part};
+use slots::Slot;
 
 // How far the first number of a part's frames goes.
 pub fn outer(t: &[u64; 768], k: Part) -> usize
@@ -67,35 +68,35 @@ pub fn frame_of(t: &[u64; 768], k: Part, a: usize, b: usize) -> Frame
             kind: 17,
             head: 6,
             registers: program::registers(t, a),
-            last: slots::result_place(a, b),
+            last: slots::place(Slot::Result(a, b)),
             allowed: values,
         },
         Part::Field => Frame {
             kind: 18,
             head: 6,
             registers: 0,
-            last: slots::field_place(a, b),
+            last: slots::place(Slot::Field(a, b)),
             allowed: values,
         },
         Part::Static => Frame {
             kind: 19,
             head: 4,
             registers: 0,
-            last: slots::static_place(a),
+            last: slots::place(Slot::Static(a)),
             allowed: values,
         },
         Part::Returned => Frame {
             kind: 20,
             head: 4,
             registers: 0,
-            last: slots::returned_place(a),
+            last: slots::place(Slot::Returned(a)),
             allowed: values,
         },
         Part::Leaving => Frame {
             kind: 21,
             head: 4,
             registers: 0,
-            last: slots::leaving_place(a),
+            last: slots::place(Slot::Leaving(a)),
             allowed: classes,
         },
     }

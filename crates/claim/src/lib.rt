@@ -8,20 +8,47 @@ mod walk; // walk.rt: line after line
 ghost use Rattle.std.specs.Prelude.{◌≡◌, List, ℕ};
 ghost use Rattle.program.specs.Tables.{program_in};
 ghost use Rattle.slots.specs.Layout.{no_masks};
-ghost use Rattle.claim.specs.ReadClaim.{taken, read_claim, reading_number, reading_values, masks_after, number_of, values_of, line_of};
-ghost use Rattle.claim.specs.Inside.{answer_of};
+ghost use Rattle.claim.specs.ReadClaim.{taken, read_claim, reading_number, reading_values, masks_after, refusal_number, refusal_line, number_of, values_of, line_of};
+ghost use Rattle.claim.specs.Inside.{refusal_of};
 
 use lines::Cursor;
 
-// What a text turned out to be. A refusal has its line; that of the length has line 0.
-#[derive(Clone, Copy)]
-pub enum Answer {
-    Read,
+// Why a claim text is refused, and at which line; the length has line 0.
+#[derive(Clone, Copy, Debug, PartialEq, Eq)]
+pub enum Refusal {
     TooLong,
     BadLine(usize),
     UnknownKind(usize),
     NotDue(usize),
     BadBit(usize),
+}
+
+impl Refusal {
+    // Document 01's number of a refusal.
+    pub fn number(self) -> u8
+        ensures value { result ≡ refusal_number self }
+    {
+        match self {
+            Self::TooLong => 9,
+            Self::BadLine(line) => 10,
+            Self::UnknownKind(line) => 11,
+            Self::NotDue(line) => 12,
+            Self::BadBit(line) => 13,
+        }
+    }
+
+    // Its line.
+    pub fn line(self) -> usize
+        ensures value { result ≡ refusal_line self }
+    {
+        match self {
+            Self::TooLong => 0,
+            Self::BadLine(line) => line,
+            Self::UnknownKind(line) => line,
+            Self::NotDue(line) => line,
+            Self::BadBit(line) => line,
+        }
+    }
 }
 
 // The parts of a claim text, one for each kind of frame.
@@ -52,48 +79,40 @@ pub struct Status {
     pub place: Cursor,
 }
 
-// Document 01's number of an answer, 0 for one that is no refusal.
-pub fn number_of(a: Answer) -> u8
-    ensures value { result ≡ number_of a }
+// Document 01's number of what became of a text, 0 where it is read.
+pub fn number_of(read: Result<(), Refusal>) -> u8
+    ensures value { result ≡ number_of read }
 {
-    match a {
-        Answer::Read => 0,
-        Answer::TooLong => 9,
-        Answer::BadLine(line) => 10,
-        Answer::UnknownKind(line) => 11,
-        Answer::NotDue(line) => 12,
-        Answer::BadBit(line) => 13,
+    match read {
+        Ok(()) => 0,
+        Err(refusal) => refusal.number(),
     }
 }
 
-// The line of an answer, 0 for one that is no refusal.
-pub fn line_of(a: Answer) -> usize
-    ensures value { result ≡ line_of a }
+// The line of its refusal, 0 where it is read.
+pub fn line_of(read: Result<(), Refusal>) -> usize
+    ensures value { result ≡ line_of read }
 {
-    match a {
-        Answer::Read => 0,
-        Answer::TooLong => 0,
-        Answer::BadLine(line) => line,
-        Answer::UnknownKind(line) => line,
-        Answer::NotDue(line) => line,
-        Answer::BadBit(line) => line,
+    match read {
+        Ok(()) => 0,
+        Err(refusal) => refusal.line(),
     }
 }
 
-// The answer of a refusal's number, 10 to 13.
-fn refusal(number: usize, line: usize) -> Answer
-    ensures value { result ≡ answer_of number line }
+// The refusal of a number, 10 to 13.
+fn refused_by(number: usize, line: usize) -> Refusal
+    ensures value { result ≡ refusal_of number line }
 {
     match number {
-        10 => Answer::BadLine(line),
-        11 => Answer::UnknownKind(line),
-        12 => Answer::NotDue(line),
-        _ => Answer::BadBit(line),
+        10 => Refusal::BadLine(line),
+        11 => Refusal::UnknownKind(line),
+        12 => Refusal::NotDue(line),
+        _ => Refusal::BadBit(line),
     }
 }
 
 // Takes a claim text into words of no mask. Read: the words hold the claim.
-fn take(t: &[u64; 768], text: &[u8], w: &mut [u64; 9712]) -> Answer
+fn take(t: &[u64; 768], text: &[u8], w: &mut [u64; 9712]) -> Result<(), Refusal>
     requires { w.old ≡ no_masks }
     ensures answer { let reading = read_claim (program_in t.now) text.now in
         (number_of result ≡ reading_number reading) × (values_of result ≡ reading_values reading) }
@@ -101,48 +120,44 @@ fn take(t: &[u64; 768], text: &[u8], w: &mut [u64; 9712]) -> Answer
         ((ms : List ℕ) → reading ≡ taken ms → w.new ≡ ms) }
 {
     if 262144 < text.len() {
-        return Answer::TooLong;
+        return Err(Refusal::TooLong);
     }
     let end = walk::take_parts(t, text, &mut *w);
     let place = end.place;
     if end.number != 0 {
-        return refusal(end.number, place.line);
+        return Err(refused_by(end.number, place.line));
     }
     let more = walk::after_last(text, place);
     if more != 0 {
-        return refusal(more, place.line);
+        return Err(refused_by(more, place.line));
     }
-    Answer::Read
+    Ok(())
 }
 
 // Reads a claim text for the program in tables. Read: the words hold the claim. Refused: they are as they were.
-pub fn read(t: &[u64; 768], text: &[u8], w: &mut [u64; 9712]) -> Answer
+pub fn read(t: &[u64; 768], text: &[u8], w: &mut [u64; 9712]) -> Result<(), Refusal>
     ensures answer { let reading = read_claim (program_in t.now) text.now in
         (number_of result ≡ reading_number reading) × (values_of result ≡ reading_values reading) }
     ensures memory { let reading = read_claim (program_in t.now) text.now in
         w.new ≡ masks_after reading w.old }
 {
     let mut draft = [0u64; 9712];
-    let answer = take(t, text, &mut draft);
-    if number_of(answer) != 0 {
-        return answer;
-    }
+    take(t, text, &mut draft)?;
     *w = draft;
-    answer
+    Ok(())
 }
 
 // The same without a draft, for words of the caller's own. Refused: they hold no mask.
-pub fn fill(t: &[u64; 768], text: &[u8], w: &mut [u64; 9712]) -> Answer
+pub fn fill(t: &[u64; 768], text: &[u8], w: &mut [u64; 9712]) -> Result<(), Refusal>
     ensures answer { let reading = read_claim (program_in t.now) text.now in
         (number_of result ≡ reading_number reading) × (values_of result ≡ reading_values reading) }
     ensures memory { let reading = read_claim (program_in t.now) text.now in
         w.new ≡ masks_after reading no_masks }
 {
     *w = [0u64; 9712];
-    let answer = take(t, text, &mut *w);
-    if number_of(answer) == 0 {
-        return answer;
+    let read = take(t, text, &mut *w);
+    if read.is_err() {
+        *w = [0u64; 9712];
     }
-    *w = [0u64; 9712];
-    answer
+    read
 }

@@ -94,13 +94,16 @@ fn take_masks(
         → taken ≡ masks_in bytes at allowed (tab n (register_at m pc) ++ (s ∷ [])) w.old) }
 {
     let mut bits = text::sixteen_at(text, at);
-    let mut r: usize = 0;
-    while r < n {
-        if !put_mask(&mut *w, slots::register_place(m, pc, r), bits, allowed) {
+    for r in 0..n {
+        if !put_mask(
+            &mut *w,
+            slots::place(slots::Slot::Register(m, pc, r)),
+            bits,
+            allowed,
+        ) {
             return false;
         }
         bits = mask_after(text, at + 16 * r, bits);
-        r += 1;
     }
     put_mask(w, last, bits, allowed)
 }

@@ -87,10 +87,8 @@ fn take_row(
 {
     let n = due::inner(t, k, a);
     let mut to = from;
-    let mut b: usize = 0;
-    while b < n {
+    for b in 0..n {
         to = take_at(t, text, to, k, a, b, &mut *w);
-        b += 1;
     }
     to
 }
@@ -105,10 +103,8 @@ fn take_part(t: &[u64; 768], text: &[u8], from: Status, k: Part, w: &mut [u64; 9
 {
     let n = due::outer(t, k);
     let mut to = from;
-    let mut a: usize = 0;
-    while a < n {
+    for a in 0..n {
         to = take_row(t, text, to, k, a, &mut *w);
-        a += 1;
     }
     to
 }

@@ -2,132 +2,112 @@
 use mathlib.Core.Path.{◌≡◌, refl}
 use mathlib.Core.Bool.{true, false}
 use mathlib.Core.List.{[], ◌∷◌}
+use Rattle.std.specs.Prelude.{Some, None}
 use Rattle.command.specs.declared.Command.TheVariants.{Plain, Check, Step, Claim, Help, Unknown}
-use Rattle.command.specs.declared.Steps.TheVariants.{Count, NoNumber}
 use Rattle.command.specs.Command.{check_word, step_word, claim_word, help_word, long_help_word, short_help_word}
-use Rattle.command.specs.Command.{same, all_digits, value_from, count_of, command_for}
+use Rattle.command.specs.Command.{all_digits, value_from, count_of, command_for}
 
 -- no word; `check A B`; `check A`; `help`; `help A`
 none : command_for 0 [] [] ≡ Plain
 none = refl
 
 check_two : command_for 3 check_word (65 ∷ []) ≡ Check
-unfolding same
 check_two = refl
 
 check_one : command_for 2 check_word (65 ∷ []) ≡ Unknown
-unfolding same
 check_one = refl
 
 help : command_for 1 help_word [] ≡ Help
-unfolding same
 help = refl
 
 help_more : command_for 2 help_word (65 ∷ []) ≡ Unknown
-unfolding same
 help_more = refl
 
 -- `--help`; `-h`; `--help A`; `-h A`
 long_help : command_for 1 long_help_word [] ≡ Help
-unfolding same
 long_help = refl
 
 short_help : command_for 1 short_help_word [] ≡ Help
-unfolding same
 short_help = refl
 
 long_help_more : command_for 2 long_help_word (65 ∷ []) ≡ Unknown
-unfolding same
 long_help_more = refl
 
 short_help_more : command_for 2 short_help_word (65 ∷ []) ≡ Unknown
-unfolding same
 short_help_more = refl
 
 -- `-help`, `--hel` and `h` are no commands
 one_dash : command_for 1 (45 ∷ 104 ∷ 101 ∷ 108 ∷ 112 ∷ []) [] ≡ Unknown
-unfolding same
 one_dash = refl
 
 cut_help : command_for 1 (45 ∷ 45 ∷ 104 ∷ 101 ∷ 108 ∷ []) [] ≡ Unknown
-unfolding same
 cut_help = refl
 
 no_dash : command_for 1 (104 ∷ []) [] ≡ Unknown
-unfolding same
 no_dash = refl
 
 -- `chec`, `checks` and `Check` are no commands
 cut : command_for 3 (99 ∷ 104 ∷ 101 ∷ 99 ∷ []) [] ≡ Unknown
-unfolding same
 cut = refl
 
 longer : command_for 3 (99 ∷ 104 ∷ 101 ∷ 99 ∷ 107 ∷ 115 ∷ []) [] ≡ Unknown
-unfolding same
 longer = refl
 
 capital : command_for 3 (67 ∷ 104 ∷ 101 ∷ 99 ∷ 107 ∷ []) [] ≡ Unknown
-unfolding same
 capital = refl
 
 -- `step 25`; `step 25 A`; `step`; `step 25 A B`
 step_here : command_for 2 step_word (50 ∷ 53 ∷ []) ≡ Step 25 false
-unfolding same all_digits value_from
+unfolding all_digits value_from
 step_here = refl
 
 step_named : command_for 3 step_word (50 ∷ 53 ∷ []) ≡ Step 25 true
-unfolding same all_digits value_from
+unfolding all_digits value_from
 step_named = refl
 
 step_alone : command_for 1 step_word [] ≡ Unknown
-unfolding same
 step_alone = refl
 
 step_more : command_for 4 step_word (50 ∷ 53 ∷ []) ≡ Unknown
-unfolding same
 step_more = refl
 
 -- `claim`; `claim A`; `claim A B`; `claims`
 claim_here : command_for 1 claim_word [] ≡ Claim false
-unfolding same
 claim_here = refl
 
 claim_named : command_for 2 claim_word (65 ∷ []) ≡ Claim true
-unfolding same
 claim_named = refl
 
 claim_more : command_for 3 claim_word (65 ∷ []) ≡ Unknown
-unfolding same
 claim_more = refl
 
 claims : command_for 1 (99 ∷ 108 ∷ 97 ∷ 105 ∷ 109 ∷ 115 ∷ []) [] ≡ Unknown
-unfolding same
 claims = refl
 
 -- the word 0; leading zeros; 1000001; more digits than 64 bits hold; no digit; `-1`; `2a`
-zero_steps : count_of (48 ∷ []) ≡ Count 0
+zero_steps : count_of (48 ∷ []) ≡ Some 0
 unfolding all_digits value_from
 zero_steps = refl
 
-zeros_first : count_of (48 ∷ 48 ∷ 48 ∷ 55 ∷ []) ≡ Count 7
+zeros_first : count_of (48 ∷ 48 ∷ 48 ∷ 55 ∷ []) ≡ Some 7
 unfolding all_digits value_from
 zeros_first = refl
 
-past_million : count_of (49 ∷ 48 ∷ 48 ∷ 48 ∷ 48 ∷ 48 ∷ 49 ∷ []) ≡ Count 1000000
+past_million : count_of (49 ∷ 48 ∷ 48 ∷ 48 ∷ 48 ∷ 48 ∷ 49 ∷ []) ≡ Some 1000000
 unfolding all_digits value_from
 past_million = refl
 
-many_digits : count_of (57 ∷ 57 ∷ 57 ∷ 57 ∷ 57 ∷ 57 ∷ 57 ∷ 57 ∷ 57 ∷ 57 ∷ 57 ∷ 57 ∷ 57 ∷ 57 ∷ 57 ∷ 57 ∷ 57 ∷ 57 ∷ 57 ∷ 57 ∷ 57 ∷ 57 ∷ []) ≡ Count 1000000
+many_digits : count_of (57 ∷ 57 ∷ 57 ∷ 57 ∷ 57 ∷ 57 ∷ 57 ∷ 57 ∷ 57 ∷ 57 ∷ 57 ∷ 57 ∷ 57 ∷ 57 ∷ 57 ∷ 57 ∷ 57 ∷ 57 ∷ 57 ∷ 57 ∷ 57 ∷ 57 ∷ []) ≡ Some 1000000
 unfolding all_digits value_from
 many_digits = refl
 
-empty : count_of [] ≡ NoNumber
+empty : count_of [] ≡ None
 empty = refl
 
-sign : count_of (45 ∷ 49 ∷ []) ≡ NoNumber
+sign : count_of (45 ∷ 49 ∷ []) ≡ None
 unfolding all_digits
 sign = refl
 
-letter : count_of (50 ∷ 97 ∷ []) ≡ NoNumber
+letter : count_of (50 ∷ 97 ∷ []) ≡ None
 unfolding all_digits
 letter = refl

@@ -1,16 +1,8 @@
 -- What the words of the tool's command line ask. Bytes: 48 is '0'. Definitions only.
-use Rattle.std.specs.Prelude.{Bool, true, false, ◌&&◌, ◌||◌, cond as pick, List, [], ◌∷◌, ℕ, ◌+◌, ◌*◌, ◌-◌, min, eqb, ltb, leb}
+use Rattle.std.specs.Prelude.{Bool, true, false, ◌&&◌, ◌||◌, cond as pick, List, [], ◌∷◌, ℕ, ◌+◌, ◌*◌, ◌-◌, min, eqb, ltb, leb, Option, Some, None}
+use Rattle.std.specs.Str.{bytes_eq}
 use Rattle.command.specs.declared.Command.{Command}
 use Rattle.command.specs.declared.Command.TheVariants.{Plain, Check, Step, Claim, Help, Unknown}
-use Rattle.command.specs.declared.Steps.{Steps}
-use Rattle.command.specs.declared.Steps.TheVariants.{Count, NoNumber}
-
--- two words are equal
-unfoldable pub same : List ℕ → List ℕ → Bool
-same [] [] = true
-same [] (b ∷ bs) = false
-same (a ∷ rest) [] = false
-same (a ∷ rest) (b ∷ bs) = eqb a b && same rest bs
 
 -- `check`, `step`, `claim`, `help`, `--help`, `-h`
 abbrev pub check_word : List ℕ
@@ -33,7 +25,7 @@ short_help_word = 45 ∷ 104 ∷ []
 
 -- a word that asks for help
 abbrev pub asks_help : List ℕ → Bool
-asks_help word = same word help_word || (same word long_help_word || same word short_help_word)
+asks_help word = bytes_eq word help_word || (bytes_eq word long_help_word || bytes_eq word short_help_word)
 
 -- a decimal digit
 abbrev pub is_digit : ℕ → Bool
@@ -49,19 +41,19 @@ value_from n [] = n
 value_from n (b ∷ bs) = value_from (10 * n + (b - 48)) bs
 
 -- "n from 0 to 1,000,000 (more counts as that)": a number however many digits it has
-abbrev pub count_of : List ℕ → Steps
-count_of [] = NoNumber
-count_of (b ∷ bs) = pick (all_digits (b ∷ bs)) (Count (min (value_from 0 (b ∷ bs)) 1000000)) NoNumber
+abbrev pub count_of : List ℕ → Option ℕ
+count_of [] = None
+count_of (b ∷ bs) = pick (all_digits (b ∷ bs)) (Some (min (value_from 0 (b ∷ bs)) 1000000)) None
 
 -- `step N` and `step N PANEL`
-abbrev pub step_for : Steps → Bool → Command
-step_for (Count n) named = Step n named
-step_for NoNumber named = Unknown
+abbrev pub step_for : Option ℕ → Bool → Command
+step_for (Some n) named = Step n named
+step_for None named = Unknown
 
 -- `claim [PANEL]`; `help`, `--help` or `-h`; anything else
 abbrev pub other_for : ℕ → List ℕ → Command
 other_for count first =
-    pick (same first claim_word)
+    pick (bytes_eq first claim_word)
     (pick (eqb count 1) (Claim false) (pick (eqb count 2) (Claim true) Unknown))
     (pick (asks_help first) (pick (eqb count 1) Help Unknown) Unknown)
 
@@ -69,7 +61,7 @@ other_for count first =
 abbrev pub command_for : ℕ → List ℕ → List ℕ → Command
 command_for count first second =
     pick (eqb count 0) Plain
-    (pick (same first check_word) (pick (eqb count 3) Check Unknown)
-    (pick (same first step_word)
+    (pick (bytes_eq first check_word) (pick (eqb count 3) Check Unknown)
+    (pick (bytes_eq first step_word)
     (pick (eqb count 2) (step_for (count_of second) false) (pick (eqb count 3) (step_for (count_of second) true) Unknown))
     (other_for count first)))

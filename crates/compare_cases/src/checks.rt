@@ -1,28 +1,12 @@
 // Claims for the checker, by `checker::check`: what is printed of each, the lines that the tool prints of the verdict and a checksum
 // of the memory that was lent.
-ghost use Rattle.std.specs.Prelude.{◌≡◌, length};
-
 use super::record::Next;
 use super::{lent, number, record};
 use std::io::Read;
 
-// Room for the longest claim.
-fn claim_space() -> [u8; 262200]
-    ensures length { 262200 ≡ length result }
-{
-    [0; 262200]
-}
-
-// Room for what is printed of a verdict.
-fn page() -> [u8; report::LONGEST]
-    ensures length { 73737 ≡ length result }
-{
-    [0; report::LONGEST]
-}
-
 // Checks a case in lent memory and prints the verdict.
 fn print_verdict<R: Print>(rt: &R, program: &[u8], claim: &[u8], memory: &mut [u8]) {
-    let mut out = page();
+    let mut out = [0; report::LONGEST];
     let v = checker::check(program, claim, &mut *memory);
     let n = report::write(v, memory, &mut out);
     let _ = rt.write_all(&out[..n]);
@@ -38,10 +22,10 @@ fn show<R: Print>(rt: &R, program: &[u8], claim: &[u8], memory: &mut [u8]) {
 
 // The same in as many bytes as the case asks; false where it asks more than there are.
 fn show_case<R: Print>(rt: &R, program: &[u8], claim: &[u8], size: usize) -> bool {
-    if 65600 < size {
+    if record::SPACE < size {
         return false;
     }
-    let mut memory = record::space();
+    let mut memory = [0; record::SPACE];
     show(rt, program, claim, &mut memory[..size]);
     true
 }
@@ -66,7 +50,7 @@ fn show_rest<R: Print + Eprint, F: Read>(
 
 // Reads what comes after a program and shows the case.
 pub fn show_claim<R: Print + Eprint, F: Read>(rt: &R, file: &mut F, program: &[u8]) -> bool {
-    let mut claim = claim_space();
+    let mut claim = [0; 262200]; // room for the longest claim
     let next = record::fill_next(rt, file, &mut claim);
     match next {
         Next::Text(size) => show_rest(rt, file, program, &claim[..size]),

@@ -11,13 +11,9 @@ fn mix_two(h: u64, a: usize, b: usize) -> u64 {
     mix(mix(h, a as u64), b as u64)
 }
 
-fn mix_half(h: u64, w: u64) -> u64 {
-    mix(mix(mix(mix(h, w / 16777216), w / 65536), w / 256), w)
-}
-
 // The eight bytes of a word, the high one first.
 fn mix_word(h: u64, w: u64) -> u64 {
-    mix_half(mix_half(h, w / 4294967296), w)
+    w.to_be_bytes().iter().fold(h, |sum, &b| mix(sum, b as u64))
 }
 
 fn mix_header(t: &[u64; 768], m: usize, h: u64) -> u64 {
@@ -75,14 +71,7 @@ fn count(t: &[u64; 768], k: Kind, m: usize) -> usize {
 }
 
 fn mix_frames(t: &[u64; 768], k: Kind, m: usize, h: u64) -> u64 {
-    let n = count(t, k, m);
-    let mut sum = h;
-    let mut i: usize = 0;
-    while i < n {
-        sum = mix_frame(t, k, m, i, sum);
-        i += 1;
-    }
-    sum
+    (0..count(t, k, m)).fold(h, |sum, i| mix_frame(t, k, m, i, sum))
 }
 
 fn mix_method(t: &[u64; 768], m: usize, h: u64) -> u64 {
@@ -93,26 +82,17 @@ fn mix_method(t: &[u64; 768], m: usize, h: u64) -> u64 {
 
 // The checksum of all frames, in the order of the text.
 pub fn checksum(t: &[u64; 768]) -> u64 {
-    let n = program::method_count(t);
     let classes = mix_frames(t, Kind::Class, 0, 0);
     let fields = mix_frames(t, Kind::Field, 0, classes);
-    let mut sum = mix_frames(t, Kind::Static, 0, fields);
-    let mut m: usize = 0;
-    while m < n {
-        sum = mix_method(t, m, sum);
-        m += 1;
-    }
-    sum
+    let statics = mix_frames(t, Kind::Static, 0, fields);
+    (0..program::method_count(t)).fold(statics, |sum, m| mix_method(t, m, sum))
 }
 
 // How many frames of a kind all methods have.
 pub fn total(t: &[u64; 768], k: Kind) -> u64 {
-    let n = program::method_count(t);
     let mut sum: u64 = 0;
-    let mut m: usize = 0;
-    while m < n {
+    for m in 0..program::method_count(t) {
         sum = sum % 65536 + count(t, k, m) as u64 % 65536;
-        m += 1;
     }
     sum
 }

@@ -45,7 +45,7 @@ fn show_record<R: Print + Eprint, F: Read>(
 
 // The same for the record that comes next in a file.
 fn show_next<R: Print + Eprint, F: Read>(rt: &R, file: &mut F, records: Records) -> Next {
-    let mut text = record::space();
+    let mut text = [0; record::SPACE];
     let next = record::fill_next(rt, file, &mut text);
     if let Next::Text(size) = next {
         if !show_record(rt, file, records, &text[..size]) {
@@ -57,13 +57,14 @@ fn show_next<R: Print + Eprint, F: Read>(rt: &R, file: &mut F, records: Records)
 
 // The same for every record of a file; false where the file is no sequence of records.
 fn show_all<R: Print + Eprint, F: Read>(rt: &R, file: &mut F, records: Records) -> bool {
-    let mut next = Next::End;
-    let mut left: usize = record::MOST;
-    while 0 < left {
-        next = show_next(rt, file, records);
-        left = record::left_after(next, left);
+    for _ in 0..record::MOST {
+        match show_next(rt, file, records) {
+            Next::Text(_) => {}
+            Next::End => return true,
+            Next::Broken => return false,
+        }
     }
-    record::is_whole(next)
+    true
 }
 
 // The same for a file by name; one that cannot be opened has no records.

@@ -1,22 +1,14 @@
 // Numbers: out of the bytes of a record, into a checksum, and onto standard output.
-ghost use Rattle.std.specs.Prelude.{◌≡◌, ◌≤◌};
+ghost use Rattle.std.specs.Prelude.{◌≡◌};
 ghost use Rattle.compare_cases.specs.Records.{bytes_from, mixed};
-
-fn wide(b: u8) -> u64
-    ensures { (result ≡ b) × (result ≤ 255) }
-{
-    b as u64
-}
 
 // The number that bytes say, the high byte first: of the last eight bytes, where there are more.
 pub fn of_bytes(bytes: &[u8]) -> u64
     ensures value { result ≡ bytes_from 0 bytes.now }
 {
     let mut n: u64 = 0;
-    let mut i: usize = 0;
-    while i < bytes.len() {
-        n = n % 72057594037927936 * 256 + wide(bytes[i]);
-        i += 1;
+    for &b in bytes {
+        n = n % 72057594037927936 * 256 + b as u64;
     }
     n
 }
@@ -28,20 +20,13 @@ pub fn mix(h: u64, n: u64) -> u64
     (h % 4294967291 * 257 + n % 4294967291 + 1) % 4294967291
 }
 
-fn digit(n: u64) -> u8 {
-    let d = (n % 16) as u8;
-    if d < 10 { 48 + d } else { 87 + d }
-}
-
 // The eight low digits of a number.
 fn hex(n: u64) -> [u8; 8] {
-    let mut out = [48u8; 8];
+    let mut out = [0; 8];
     let mut rest = n;
-    let mut i: usize = 8;
-    while 0 < i {
-        i -= 1;
-        out[i] = digit(rest);
-        rest = rest / 16;
+    for digit in out.iter_mut().rev() {
+        *digit = b"0123456789abcdef"[(rest % 16) as usize];
+        rest /= 16;
     }
     out
 }
@@ -51,7 +36,7 @@ pub fn print_first<R: Print>(rt: &R, n: u64, digits: usize) {
     let out = hex(n);
     if digits <= 8 {
         let start = 8 - digits;
-        let _ = rt.write_all(&out[start..8]);
+        let _ = rt.write_all(&out[start..]);
     }
 }
 

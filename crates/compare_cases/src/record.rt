@@ -1,6 +1,5 @@
 // Files of records. A record starts with a text: its length in four bytes, the high byte first, and so many bytes.
-ghost use Rattle.std.specs.Prelude.{◌≡◌, ◌-◌, ◌≤◌, length};
-ghost use Rattle.compare_cases.specs.Records.{Filled, left_after, whole};
+ghost use Rattle.compare_cases.specs.Records.{Filled};
 
 use super::number;
 use std::fs;
@@ -29,40 +28,13 @@ pub fn open<R: Files + Eprint>(rt: &R, path: &str) -> Option<R::File> {
     }
 }
 
-// How many records may be left to read after this one, where so many were before it.
-pub fn left_after(next: Next, left: usize) -> usize
-    ensures value { result ≡ left_after next left }
-    ensures fewer { result ≤ left - 1 }
-{
-    match next {
-        Next::Text(size) => { if 0 < left { left - 1 } else { 0 } }
-        Next::End => 0,
-        Next::Broken => 0,
-    }
-}
-
-// Whether a file whose last record was this one is whole.
-pub fn is_whole(next: Next) -> bool
-    ensures value { result ≡ whole next }
-{
-    match next {
-        Next::Text(_) => true,
-        Next::End => true,
-        Next::Broken => false,
-    }
-}
-
 // Says on standard error what is wrong with a record.
 pub fn complain<R: Eprint>(rt: &R, what: &str) {
     let _ = rt.eprintln(what);
 }
 
-// Room for the longest text.
-pub fn space() -> [u8; 65600]
-    ensures { 65600 ≡ length result }
-{
-    [0; 65600]
-}
+// As many bytes as the longest text has, or more.
+pub const SPACE: usize = 65600;
 
 // Fills the buffer; false, and a line on standard error, where the file is too short.
 pub fn fill<R: Eprint, F: Read>(rt: &R, file: &mut F, buffer: &mut [u8]) -> bool {

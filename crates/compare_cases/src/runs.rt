@@ -70,13 +70,7 @@ fn show_case<R: Print>(rt: &R, text: &[u8], case: Case) -> bool {
     let f = case.frames;
     let o = case.objects;
     let s = case.statics;
-    if 640 < f {
-        return false;
-    }
-    if 4400 < o {
-        return false;
-    }
-    if 32 < s {
+    if 640 < f || 4400 < o || 32 < s {
         return false;
     }
     let mut frames = [0u64; 640];

@@ -2,7 +2,6 @@
 // checksum of it and one of its handlers' search.
 use super::{digest, handlers, number};
 use frame::Kind;
-use reader::Answer;
 
 fn refused<R: Print>(rt: &R, n: u64, at: usize) {
     let _ = rt.write_all(b"refused");
@@ -24,15 +23,9 @@ fn taken<R: Print>(rt: &R, t: &[u64; 768]) {
 
 // Reads a text into the tables and prints its line.
 fn show_by<R: Print>(rt: &R, text: &[u8], t: &mut [u64; 768]) {
-    let answer = reader::read(text, &mut *t);
-    match answer {
-        Answer::Read => taken(rt, t),
-        Answer::TooLong => refused(rt, 1, 0),
-        Answer::BadLine(at) => refused(rt, 2, at),
-        Answer::BadFrame(at) => refused(rt, 3, at),
-        Answer::OutOfOrder(at) => refused(rt, 4, at),
-        Answer::BadValue(at) => refused(rt, 5, at),
-        Answer::FallsThrough(at) => refused(rt, 6, at),
+    match reader::read(text, &mut *t) {
+        Ok(()) => taken(rt, t),
+        Err(refusal) => refused(rt, refusal.number() as u64, refusal.line()),
     }
     let _ = rt.write_all(b"\n");
 }

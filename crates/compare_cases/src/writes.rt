@@ -1,17 +1,11 @@
 // Panels whose claims are written, by `writer::write_claim`: what is printed of each, the length of the text or the refusal, and a
 // checksum of the memory that was lent.
-ghost use Rattle.std.specs.Prelude.{◌≡◌, length};
-
 use super::{lent, number, record};
 use output::Output;
 use std::io::Read;
 
-// Room for more than the longest text.
-fn memory_space() -> [u8; 196608]
-    ensures length { 196608 ≡ length result }
-{
-    [0; 196608]
-}
+// More bytes than the longest text has.
+const SPACE: usize = 196608;
 
 fn print_refused<R: Print>(rt: &R, number: usize, line: usize) {
     let _ = rt.write_all(b"refused");
@@ -42,10 +36,10 @@ fn show<R: Print>(rt: &R, program: &[u8], memory: &mut [u8]) {
 
 // The same in as many bytes as the case asks; false where it asks more than there are.
 fn show_case<R: Print>(rt: &R, program: &[u8], size: usize) -> bool {
-    if 196608 < size {
+    if SPACE < size {
         return false;
     }
-    let mut memory = memory_space();
+    let mut memory = [0; SPACE];
     show(rt, program, &mut memory[..size]);
     true
 }

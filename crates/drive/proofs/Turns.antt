@@ -1,4 +1,5 @@
--- Turns of a loop: where a number falls with each turn, so many turns are enough. Assumes nothing.
+-- Turns of a loop: the slices stay the same ones, and where a number falls with each turn, so many turns are enough. Assumes
+-- nothing.
 use mathlib.Core.Path.{◌≡◌, refl, sym, ◌∙◌}
 use mathlib.Core.Bool.{Bool, true, false, not}
 use mathlib.Core.List.{List}
@@ -7,10 +8,10 @@ use native.Mathlib.Nat.{not-suc-le-zero}
 use native.Mathlib.Omega.{arith}
 use lib.Dec.{T as Holds}
 use Rattle.instruction.specs.Word.{pick}
-use Rattle.drive.proofs.Driver.{Same}
-use Rattle.drive.specs.Models.{Lent, Done, done, looped}
+use Rattle.drive.specs.declared.Lent as slices
+use Rattle.drive.specs.Models.{Lent, Same, Done, done, looped}
 
-pub same_turns : (k m n : Lent) → Same k m → Same m n → Same k n
+pub same_turns : (k m n : slices.Lent) → Same k m → Same m n → Same k n
 same_turns k m n a b =
     record {
       frames = b.frames ∙ a.frames;

@@ -4,13 +4,10 @@ use mathlib.Core.Bool.{Bool, true, ◌||◌}
 use Prim.Native.Nat.{ℕ, ◌<◌}
 use lib.Dec.{eqb}
 use borrow.Author.Tests.{eqb-true, eq-eqb}
+use Rattle.std.specs.Prelude.{Option, Some, None}
 use Rattle.text.proofs.Cases.{by_test, never, both_true}
 use Rattle.instruction.proofs.Flags.{or_right}
 use Rattle.mask.specs.Mask.{has, has_number}
-use Rattle.search.specs.declared.Callee.{Callee}
-use Rattle.search.specs.declared.Callee.TheVariants.{Found, Missing}
-use Rattle.search.specs.declared.Handling.{Handling}
-use Rattle.search.specs.declared.Handling.TheVariants.{Caught, Uncaught}
 use Rattle.flow.specs.Claim.{Slot, Claim}
 use Rattle.flow.specs.Flows.{Flows, ◌∈◌, ◌⊆◌, ◌&◌, each, given, numeric, when, found, handled, unhandled, Holds}
 use Rattle.flow.proofs.Callees.{some_at, some_one}
@@ -27,17 +24,17 @@ pub or_left : (a b : Bool) → a ≡ true → a || b ≡ true
 or_left a b e = rw e
 
 -- ---- the outcome that a test passed at
-by_found_lem : {P : Type 0} (r : Callee) (test : ℕ → Bool) → by_found r test ≡ true → ((m : ℕ) → r ≡ Found m → test m ≡ true → P) → P
-by_found_lem (Found m) test e f = f m refl e
-by_found_lem Missing test e f = never (cc)
+by_found_lem : {P : Type 0} (r : Option ℕ) (test : ℕ → Bool) → by_found r test ≡ true → ((m : ℕ) → r ≡ Some m → test m ≡ true → P) → P
+by_found_lem (Some m) test e f = f m refl e
+by_found_lem None test e f = never (cc)
 
-by_caught_lem : {P : Type 0} (r : Handling) (test : ℕ → Bool) → by_caught r test ≡ true → ((m : ℕ) → r ≡ Caught m → test m ≡ true → P) → P
-by_caught_lem (Caught m) test e f = f m refl e
-by_caught_lem Uncaught test e f = never (cc)
+by_caught_lem : {P : Type 0} (r : Option ℕ) (test : ℕ → Bool) → by_caught r test ≡ true → ((m : ℕ) → r ≡ Some m → test m ≡ true → P) → P
+by_caught_lem (Some m) test e f = f m refl e
+by_caught_lem None test e f = never (cc)
 
-by_uncaught_lem : {P : Type 0} (r : Handling) (t : Bool) → by_uncaught r t ≡ true → (r ≡ Uncaught → t ≡ true → P) → P
-by_uncaught_lem (Caught m) t e f = never (cc)
-by_uncaught_lem Uncaught t e f = f refl e
+by_uncaught_lem : {P : Type 0} (r : Option ℕ) (t : Bool) → by_uncaught r t ≡ true → (r ≡ None → t ≡ true → P) → P
+by_uncaught_lem (Some m) t e f = never (cc)
+by_uncaught_lem None t e f = f refl e
 
 abbrev pub Inside : Slot → Type 0
 Inside s = place_of s < claim_size

@@ -4,11 +4,10 @@ use mathlib.Core.Bool.{true, false}
 use mathlib.Core.List.{List, [], ◌∷◌, map}
 use Prim.Native.Nat.{ℕ}
 use lib.Dec.{eqb}
+use Rattle.std.specs.Prelude.{Some, None}
 use Rattle.instruction.specs.Word.{pick, instruction_of, fields_of}
 use Rattle.mask.specs.Mask.{has, has_number, bits_where}
 use Rattle.reader.proofs.Examples.{sample_program}
-use Rattle.search.specs.declared.Callee.TheVariants.{Found, Missing}
-use Rattle.search.specs.declared.Handling.TheVariants.{Caught, Uncaught}
 use Rattle.flow.specs.Claim.{Slot, register_at, result_at, field_of, static_of, returned_by, leaving, Claim}
 use Rattle.flow.specs.Flows.{Flows, ◌∈◌, ◌⊆◌, ◌&◌, each, given, numeric, when, found, handled, unhandled}
 use Rattle.slots.specs.Layout.{row_of, place_of, mask_of, no_masks, claim_in}
@@ -55,9 +54,9 @@ guards_asked = refl
 
 -- a callee that is found and none; a handler that is found and none, both ways
 searches_asked : map asked
-    (found (Found 4) (λ m. m ∈ x) ∷ found Missing (λ m. m ∈ x) ∷ handled (Caught 5) (λ h. h ∈ x) ∷ handled Uncaught (λ h. h ∈ x)
-    ∷ unhandled Uncaught (3 ∈ x)
-    ∷ unhandled (Caught 5) (3 ∈ x)
+    (found (Some 4) (λ m. m ∈ x) ∷ found None (λ m. m ∈ x) ∷ handled (Some 5) (λ h. h ∈ x) ∷ handled None (λ h. h ∈ x)
+    ∷ unhandled None (3 ∈ x)
+    ∷ unhandled (Some 5) (3 ∈ x)
     ∷ [])
     ≡ 16 ∷ 0 ∷ 32 ∷ 0 ∷ 8 ∷ 0 ∷ []
 unfolding has place_of row_of

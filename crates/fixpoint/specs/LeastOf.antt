@@ -1,13 +1,9 @@
 -- The least claim of a program, as a definition that computes: from a claim with no bit, all bits that the rules ask for are joined in,
 -- again and again, until every rule holds. Definitions only.
-use Rattle.std.specs.Prelude.{Bool, false, ◌&&◌, ◌||◌, List, [], ◌∷◌, ℕ, zero, suc, eqb}
+use Rattle.std.specs.Prelude.{Bool, false, ◌&&◌, ◌||◌, List, [], ◌∷◌, ℕ, zero, suc, eqb, Option, Some, None}
 use Rattle.mask.specs.Mask.{has, has_number, bits_where}
 use Rattle.program.specs.Lists.{tab}
 use Rattle.program.specs.Program.{Program, method_count, code_length}
-use Rattle.search.specs.declared.Callee.{Callee}
-use Rattle.search.specs.declared.Callee.TheVariants.{Found, Missing}
-use Rattle.search.specs.declared.Handling.{Handling}
-use Rattle.search.specs.declared.Handling.TheVariants.{Caught, Uncaught}
 use Rattle.flow.specs.Claim.{Claim}
 use Rattle.flow.specs.Flows.{Flows, ◌∈◌, ◌⊆◌, ◌&◌, each, given, numeric, when, found, handled, unhandled, some}
 use Rattle.flow.specs.Rules.{Rule, rules_at}
@@ -15,19 +11,19 @@ use Rattle.flow.specs.Verdict.{Verdict, accepted, violated, verdict}
 use Rattle.slots.specs.Layout.{claim_size, place_of, mask_at, claim_in, no_masks}
 
 -- a test of the callee that was found; no test passes where none was
-abbrev pub by_found : Callee → (ℕ → Bool) → Bool
-by_found (Found m) test = test m
-by_found Missing test = false
+abbrev pub by_found : Option ℕ → (ℕ → Bool) → Bool
+by_found (Some m) test = test m
+by_found None test = false
 
 -- the same of the handler's address
-abbrev pub by_caught : Handling → (ℕ → Bool) → Bool
-by_caught (Caught h) test = test h
-by_caught Uncaught test = false
+abbrev pub by_caught : Option ℕ → (ℕ → Bool) → Bool
+by_caught (Some h) test = test h
+by_caught None test = false
 
 -- a test that passes only where no handler was found
-abbrev pub by_uncaught : Handling → Bool → Bool
-by_uncaught (Caught h) t = false
-by_uncaught Uncaught t = t
+abbrev pub by_uncaught : Option ℕ → Bool → Bool
+by_uncaught (Some h) t = false
+by_uncaught None t = t
 
 -- whether flows ask for bit k at place i of the words, where the masks that flow and the masks of guards are read in claim c
 abbrev pub asks : Claim → Flows → ℕ → ℕ → Bool

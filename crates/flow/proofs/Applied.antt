@@ -4,10 +4,9 @@ use mathlib.Core.Bool.{true}
 use mathlib.Core.List.{List, [], ◌∷◌, ◌++◌}
 use Prim.Native.Nat.{ℕ, suc, ◌<◌}
 use lib.ListN.{length, set}
+use Rattle.std.specs.Prelude.{Option, Some, None}
 use Rattle.mask.specs.Mask.{has}
 use Rattle.program.specs.Program.{Program, handler_target}
-use Rattle.search.specs.declared.Handling.{Handling}
-use Rattle.search.specs.declared.Handling.TheVariants.{Caught, Uncaught}
 use Rattle.search.specs.Search.{handler_for}
 use Rattle.reader.specs.Formed.{Formed}
 use Rattle.machine.specs.declared.Value.{Value}
@@ -140,13 +139,13 @@ module _ (p : Program) (c : Claim) (formed : Formed p) (asked : Asked p c) (s : 
 
     module _ (o : ℕ) (l : o < length s.objects) (at : RaisedAt p c f.method f.address (object_at s o).class) where
       -- rule 10: with no handler the object's bit is in the method's mask
-      pub leaves_in : handler_for p f.method f.address (object_at s o).class ≡ Uncaught → has (c (leaving f.method)) (object_at s o).class ≡ true
+      pub leaves_in : handler_for p f.method f.address (object_at s o).class ≡ None → has (c (leaving f.method)) (object_at s o).class ≡ true
       leaves_in none =
           (raised_rules_lem p c formed asked f.method f.address top_in.0.inside (object_at s o).class at).1 none
 
-      pub unwound_inside : (r : Handling) → handler_for p f.method f.address (object_at s o).class ≡ r → Inside p c (unwound p s f rest o r)
-      unwound_inside Uncaught none = dropped_inside f.method o l (leaves_in none) rest top_in.1 top_in.2
-      unwound_inside (Caught h) found =
+      pub unwound_inside : (r : Option ℕ) → handler_for p f.method f.address (object_at s o).class ≡ r → Inside p c (unwound p s f rest o r)
+      unwound_inside None none = dropped_inside f.method o l (leaves_in none) rest top_in.1 top_in.2
+      unwound_inside (Some h) found =
           let w = (raised_rules_lem p c formed asked f.method f.address top_in.0.inside (object_at s o).class at).0 h found in
           with_frames_lem _ running
           (top_changed _ refl

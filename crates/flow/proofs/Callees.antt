@@ -6,13 +6,12 @@ use native.Mathlib.Nat.{not-suc-le-zero, le_of_suc-le-suc}
 use native.Mathlib.Omega.{arith}
 use lib.Dec.{eqb}
 use borrow.Author.Tests.{eqb-true, eq-eqb}
+use Rattle.std.specs.Prelude.{Option, Some, None}
 use Rattle.instruction.specs.declared.Instruction.{Instruction}
 use Rattle.instruction.specs.declared.Instruction.TheVariants.{Nop, Move, Const, Goto, If, IfZero, Binop, Unop, NewInstance, Iget, Iput, Sget, Sput, InvokeVirtual, InvokeStatic, MoveResult, MoveException, Return, ReturnVoid, Throw, InstanceOf, CheckCast}
 use Rattle.instruction.proofs.Flags.{both_true, or_right}
 use Rattle.mask.specs.Mask.{has}
 use Rattle.program.specs.Program.{Program, class_count, instruction_at}
-use Rattle.search.specs.declared.Callee.{Callee}
-use Rattle.search.specs.declared.Callee.TheVariants.{Found, Missing}
 use Rattle.search.specs.Search.{virtual_callee}
 use Rattle.flow.specs.Claim.{register_at, Claim}
 use Rattle.flow.specs.Flows.{some, is_found}
@@ -38,11 +37,11 @@ some_one (suc n) test e =
     (suc i, omega arith, t))
     e
 
-pub found_is : (r : Callee) (q : ℕ) → is_found r q ≡ true → r ≡ Found q
-found_is (Found m) q e = rw (eqb-true m q e)
-found_is Missing q e = absurd (false≢true e)
+pub found_is : (r : Option ℕ) (q : ℕ) → is_found r q ≡ true → r ≡ Some q
+found_is (Some m) q e = rw (eqb-true m q e)
+found_is None q e = absurd (false≢true e)
 
-pub is_found_lem : (r : Callee) (q : ℕ) → r ≡ Found q → is_found r q ≡ true
+pub is_found_lem : (r : Option ℕ) (q : ℕ) → r ≡ Some q → is_found r q ≡ true
 is_found_lem r q f = rw (f, eq-eqb q q refl)
 
 module _ (p : Program) (c : Claim) (m pc q : ℕ) where

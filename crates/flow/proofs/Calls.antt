@@ -11,10 +11,10 @@ use Rattle.instruction.specs.declared.Instruction.TheVariants.{Return, ReturnVoi
 use Rattle.instruction.specs.Word.{falls_through}
 use Rattle.instruction.proofs.Flags.{both_true}
 use native.Mathlib.Omega.{arith}
+use Rattle.std.specs.Prelude.{Some}
 use Rattle.mask.specs.Mask.{has}
 use Rattle.program.specs.Lists.{Every}
 use Rattle.program.specs.Program.{Program, class_count, field_count, code_length, instruction_at, handler_count, handler_target}
-use Rattle.search.specs.declared.Handling.TheVariants.{Caught}
 use Rattle.search.specs.Search.{has_field, handler_for}
 use Rattle.search.proofs.Searches.{handler_highest}
 use Rattle.reader.specs.Formed.{Formed}
@@ -32,7 +32,7 @@ unfolding has_field
 field_exists p k x e = ltb-true x (field_count p) (both_true (ltb x (field_count p)) _ e).0
 
 -- a handler that is found is one of the method's
-pub handler_exists : (p : Program) (m pc k h : ℕ) → handler_for p m pc k ≡ Caught h → h < handler_count p m
+pub handler_exists : (p : Program) (m pc k h : ℕ) → handler_for p m pc k ≡ Some h → h < handler_count p m
 handler_exists p m pc k h e = (handler_highest p m pc k h e).within
 
 -- what the rules ask at a call of method q
@@ -42,7 +42,7 @@ pub record CallRules (p : Program) (c : Claim) (m pc q : ℕ) : Type 0 where
   pub answers : Holds c (returned_into p m pc q)
 
 module _ (p : Program) (c : Claim) (formed : Formed p) (asked : Asked p c) (m pc : ℕ) (l : pc < code_length p m) where
-  pub target_inside : (k h : ℕ) → handler_for p m pc k ≡ Caught h → handler_target p m h < code_length p m
+  pub target_inside : (k h : ℕ) → handler_for p m pc k ≡ Some h → handler_target p m h < code_length p m
   target_inside k h e = (formed.methods m (method_exists p m pc l)).target h (handler_exists p m pc k h e)
 
   -- the rules of an instruction that is known

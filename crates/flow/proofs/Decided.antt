@@ -1,5 +1,6 @@
 -- What an instruction decides at a frame in its masks is safe, where the rules at its address hold: one lemma an instruction.
 -- Assumes nothing.
+use Rattle.std.specs.Prelude.{Option, Some, None}
 use mathlib.Core.Path.{◌≡◌, refl}
 use mathlib.Core.Bool.{Bool, true, false, not}
 use Prim.Native.Nat.{ℕ, zero, suc, ◌+◌, ◌-◌, ◌≤◌, ◌<◌}
@@ -19,13 +20,9 @@ use Rattle.instruction.specs.declared.Instruction.TheVariants.{InvokeVirtual}
 use Rattle.instruction.specs.Word.{falls_through}
 use Rattle.mask.specs.Mask.{zero_bit, other_bit, has, has_number}
 use Rattle.mask.proofs.Laws.{has_number_lem}
-use Rattle.arithmetic.specs.declared.Computed.{Computed}
-use Rattle.arithmetic.specs.declared.Computed.TheVariants.{Number as Result, ByZero}
 use Rattle.arithmetic.specs.Arithmetic.{divides, is_zero, computed, unary_value, in_order}
 use Rattle.program.specs.Program.{Program, null_class, arithmetic_class, cast_class, class_count, method_count, registers, arguments}
 use Rattle.program.specs.Program.{code_length, instruction_at}
-use Rattle.search.specs.declared.Callee.{Callee}
-use Rattle.search.specs.declared.Callee.TheVariants.{Found, Missing}
 use Rattle.search.specs.Search.{below, has_field, virtual_callee}
 use Rattle.reader.specs.Formed.{Formed}
 use Rattle.machine.specs.declared.Value.{Value}
@@ -55,7 +52,7 @@ next_inside p formed m pc l falls =
     never (cc))
 
 -- a division by zero divides, by zero
-by_zero : (o : Operation) (x y : ℤ) → computed o x y ≡ ByZero → (divides o ≡ true) × (is_zero y ≡ true)
+by_zero : (o : Operation) (x y : ℤ) → computed o x y ≡ None → (divides o ≡ true) × (is_zero y ≡ true)
 unfolding computed
 by_zero Add x y e = never (cc)
 by_zero Sub x y e = never (cc)
@@ -97,10 +94,10 @@ module _ (p : Program) (c : Claim) (formed : Formed p) (asked : Asked p c) (s : 
     pub write : (v : Value) → Lies p c s.objects v (register_at f.method (suc f.address) a) → FrameIn p c s.objects (wrote f a v)
     write v = wrote_in p c s.objects f here a v size goes l w
 
-    computed_safe : (r : Computed) → Holds c (numbers_into p f.method f.address a)
-        → (r ≡ ByZero → Raised arithmetic_class) → SafeEffect p c s f (computed_into a r)
-    computed_safe (Result z) x raised = write (Number z) (number_in c _ x z)
-    computed_safe ByZero x raised = (omega (arith, formed.classes_from), raised refl)
+    computed_safe : (r : Option ℤ) → Holds c (numbers_into p f.method f.address a)
+        → (r ≡ None → Raised arithmetic_class) → SafeEffect p c s f (computed_into a r)
+    computed_safe (Some z) x raised = write (Number z) (number_in c _ x z)
+    computed_safe None x raised = (omega (arith, formed.classes_from), raised refl)
 
     pub binop_safe : (o : Operation) (v u : Value) (t t' : Slot) → Lies p c s.objects v t → Lies p c s.objects u t'
         → (has_number (c t) ≡ true → has_number (c t') ≡ true → Holds c (numbers_into p f.method f.address a))
@@ -209,7 +206,7 @@ module _ (p : Program) (c : Claim) (formed : Formed p) (asked : Asked p c) (s : 
   module _ (n b r : ℕ) (l : r + b ≤ registers p f.method)
       (w : Holds c (receivers p f.method f.address n b r (λ k q. receiver_into p f.method f.address k q & each (b - 1) (λ i. argument_into p f.method f.address r q (suc i))))) where
     virtual_argument : (o q : ℕ) → register f r ≡ Reference o → Lies p c s.objects (Reference o) (register_at f.method f.address r)
-        → virtual_callee p (object_at s o).class n b ≡ Found q → (i : ℕ) → i < b
+        → virtual_callee p (object_at s o).class n b ≡ Some q → (i : ℕ) → i < b
         → Lies p c s.objects (register f (r + i)) (register_at q 0 (parameter p q i))
     virtual_argument o q e h found zero k = rw (add-zero r, e) (w _ (classed o _ h) h q found).0
     virtual_argument o q e h found (suc i) k =
@@ -217,9 +214,9 @@ module _ (p : Program) (c : Claim) (formed : Formed p) (asked : Asked p c) (s : 
 
     call_safe : (o : ℕ) → instruction_at p f.method f.address ≡ InvokeVirtual n b r → register f r ≡ Reference o
         → Lies p c s.objects (Reference o) (register_at f.method f.address r)
-        → (callee : Callee) → virtual_callee p (object_at s o).class n b ≡ callee → SafeEffect p c s f (call_of callee r)
-    call_safe o i e h Missing found = tt
-    call_safe o i e h (Found q) found =
+        → (callee : Option ℕ) → virtual_callee p (object_at s o).class n b ≡ callee → SafeEffect p c s f (call_of callee r)
+    call_safe o i e h None found = tt
+    call_safe o i e h (Some q) found =
         let fits = callee_fits p n b q (object_at s o).class found in (
           by_virtual n b r (object_at s o).class i (classed o _ h) h found,
           enter q r fits.0 (λ j k. virtual_argument o q e h found j (rw fits.1 at k)),

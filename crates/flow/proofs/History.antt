@@ -6,12 +6,11 @@ use native.Mathlib.Omega.{arith}
 use lib.Dec.{ltb}
 use lib.ListN.{length}
 use borrow.Author.Tests.{ltb-true, ltb-false}
+use Rattle.std.specs.Prelude.{Option, Some, None}
 use Rattle.text.proofs.Cases.{by_test, never}
 use Rattle.program.specs.Program.{Program}
 use Rattle.program.specs.Lists.{Every}
 use Rattle.program.proofs.Every.{every_append, every_map}
-use Rattle.search.specs.declared.Handling.{Handling}
-use Rattle.search.specs.declared.Handling.TheVariants.{Caught, Uncaught}
 use Rattle.reader.specs.Formed.{Formed}
 use Rattle.machine.specs.declared.Value.TheVariants.{Reference}
 use Rattle.machine.specs.declared.Effect.TheVariants.{Call}
@@ -82,10 +81,10 @@ module _ (p : Program) (c : Claim) (formed : Formed p) (asked : Asked p c) where
       left.handling
 
   module _ (n : ℕ) (before : Every (LeftIn (run p n).objects) (leavings p n)) where
-    unwound_leavings : (f : Frame) (rest : List Frame) (o : ℕ) → At p (run p n) (raised o) f rest → (r : Handling)
+    unwound_leavings : (f : Frame) (rest : List Frame) (o : ℕ) → At p (run p n) (raised o) f rest → (r : Option ℕ)
         → handling_at p (run p n) f o ≡ r → Every (LeftIn (run p n).objects) (leavings p (suc n))
-    unwound_leavings f rest o at (Caught h) e = rw (caught_stays p n o h f rest at e) before
-    unwound_leavings f rest o at Uncaught e =
+    unwound_leavings f rest o at (Some h) e = rw (caught_stays p n o h f rest at e) before
+    unwound_leavings f rest o at None e =
         let left : Leaving p (run p n) = record { frame = f; rest = rest; object = o; at = at; handling = e } in
         rw (leaving_made p n left) (every_append (LeftIn (run p n).objects) (leavings p n) _ before (left_in n left, tt))
 

@@ -2,9 +2,8 @@
 use mathlib.Core.Path.{refl}
 use mathlib.Core.List.{List, [], ◌∷◌}
 use Prim.Native.Nat.{ℕ}
+use Rattle.std.specs.Prelude.{Option, Some, None}
 use Rattle.program.specs.Program.{Program}
-use Rattle.search.specs.declared.Handling.{Handling}
-use Rattle.search.specs.declared.Handling.TheVariants.{Caught, Uncaught}
 use Rattle.reader.specs.Formed.{Formed}
 use Rattle.machine.specs.declared.Effect.{Effect}
 use Rattle.machine.specs.declared.Effect.TheVariants.{Next, Jump, Write, Load, LoadStatic, Make, Store, StoreStatic, Call, Exit, Raise}
@@ -34,10 +33,10 @@ module _ (p : Program) (s : State) where
   applied_keeps f rest (RaiseNew k) fits = made_keeps s.objects (fresh p k)
   applied_keeps f rest (Fail e) fits = λ o l. refl
 
-  unwound_keeps : (f : Frame) (rest : List Frame) (i : ℕ) (r : Handling) → Keeps s.objects (unwound p s f rest i r).objects
-  unwound_keeps f rest i (Caught h) = λ o l. refl
-  unwound_keeps f [] i Uncaught = λ o l. refl
-  unwound_keeps f (g ∷ rest) i Uncaught = λ o l. refl
+  unwound_keeps : (f : Frame) (rest : List Frame) (i : ℕ) (r : Option ℕ) → Keeps s.objects (unwound p s f rest i r).objects
+  unwound_keeps f rest i (Some h) = λ o l. refl
+  unwound_keeps f [] i None = λ o l. refl
+  unwound_keeps f (g ∷ rest) i None = λ o l. refl
 
   keeps_by : Formed p → Shaped p s → (t : State) → Stepped p s t → Keeps s.objects t.objects
   keeps_by formed shaped t (runs f rest at e) =

@@ -22,3 +22,4 @@ pub mod Samples
 pub mod Examples
 pub mod Refuted
 pub mod Raising
+pub mod Ranges

@@ -1,11 +1,10 @@
 -- The call list of a program under a claim. Definitions only.
-use Rattle.std.specs.Prelude.{◌≡◌, Bool, true, false, ◌&&◌, ◌||◌, List, [], ◌∷◌, ℕ, ◌<◌, eqb}
+use Rattle.std.specs.Prelude.{◌≡◌, Bool, true, false, ◌&&◌, ◌||◌, List, [], ◌∷◌, ℕ, ◌<◌, eqb, Some}
 use Rattle.instruction.specs.Word.{pick}
 use Rattle.instruction.specs.declared.Instruction.TheVariants.{InvokeVirtual, InvokeStatic}
 use Rattle.mask.specs.Mask.{has}
 use Rattle.program.specs.Program.{Program, class_count, method_count, code_length, instruction_at}
 use Rattle.program.specs.Lists.{joined, Every}
-use Rattle.search.specs.declared.Callee.TheVariants.{Found}
 use Rattle.search.specs.Search.{virtual_callee}
 use Rattle.machine.specs.History.{Made}
 use Rattle.flow.specs.Claim.{register_at, Claim}
@@ -40,7 +39,7 @@ Ordered (x ∷ xs) = Every (Earlier x) xs × Ordered xs
 pub data CallAt (p : Program) (c : Claim) (m pc q : ℕ) : Type 0 where
   by_static : (b r : ℕ) → instruction_at p m pc ≡ InvokeStatic q b r → CallAt p c m pc q
   by_virtual : (n b r k : ℕ) → instruction_at p m pc ≡ InvokeVirtual n b r → k < class_count p
-      → has (c (register_at m pc r)) k ≡ true → virtual_callee p k n b ≡ Found q → CallAt p c m pc q
+      → has (c (register_at m pc r)) k ≡ true → virtual_callee p k n b ≡ Some q → CallAt p c m pc q
 
 -- a call at an address of the program to a callee there
 pub record CalledIn (p : Program) (c : Claim) (made : Made) : Type 0 where

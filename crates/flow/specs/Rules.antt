@@ -4,7 +4,7 @@
 -- leads there, and not its mask; return-void returns zero; a cast lets on only what passes it; null used, division by zero and a
 -- failed cast raise classes 2, 3 and 4 where a mask has the bits for it (document 02, note 2), while 004 tries a null exception at
 -- every virtual call; other faults, a method that is not found among them, raise no exception. Definitions only.
-use Rattle.std.specs.Prelude.{◌≡◌, not, ◌&&◌, List, [], ◌∷◌, ℕ, suc, ◌+◌, ◌-◌, ◌<◌, eqb, ltb}
+use Rattle.std.specs.Prelude.{◌≡◌, not, ◌&&◌, List, [], ◌∷◌, ℕ, suc, ◌+◌, ◌-◌, ◌<◌, eqb, ltb, Some}
 use Rattle.instruction.specs.declared.Operation.{Operation}
 use Rattle.instruction.specs.declared.Instruction.{Instruction}
 use Rattle.instruction.specs.declared.Instruction.TheVariants.{Nop, Move, Const, Goto, If, IfZero, Binop, Unop, NewInstance, Iget, Iput, Sget, Sput, InvokeVirtual, InvokeStatic, MoveResult, MoveException, Return, ReturnVoid, Throw, InstanceOf, CheckCast}
@@ -13,7 +13,6 @@ use Rattle.arithmetic.specs.Arithmetic.{divides}
 use Rattle.program.specs.Program.{Program, throwable_class, null_class, arithmetic_class, cast_class, class_count, field_count, method_count}
 use Rattle.program.specs.Program.{registers, arguments, code_length, instruction_at, handler_target}
 use Rattle.program.specs.Lists.{Every}
-use Rattle.search.specs.declared.Callee.TheVariants.{Found}
 use Rattle.search.specs.Search.{below, has_field, virtual_callee, handler_for}
 use Rattle.flow.specs.Claim.{Slot, register_at, result_at, field_of, static_of, returned_by, leaving, Claim, number_bit}
 use Rattle.flow.specs.Flows.{Flows, ◌∈◌, ◌⊆◌, ◌&◌, each, given, numeric, when, found, handled, unhandled, Holds}
@@ -208,7 +207,7 @@ module _ (p : Program) (m pc : ℕ) where
   rules_of (InvokeStatic q b c) =
       after_call
       -- with its callee named as a virtual call's are, for the call list
-      ∷ rule 6 (found (Found q) (λ callee. each b (argument_into c callee)))
+      ∷ rule 6 (found (Some q) (λ callee. each b (argument_into c callee)))
       ∷ rule 7 (returned_into q)
       ∷ raising (InvokeStatic q b c)
   rules_of (MoveResult a) = writes a (result_at m pc ⊆ after a)

@@ -1,12 +1,10 @@
 // Frames, their order and their counts.
 #![tactic(auto)]
 
-ghost use Rattle.std.specs.Prelude.{◌≡◌, ℕ, ◌-◌, set};
+ghost use Rattle.std.specs.Prelude.{◌≡◌, ℕ, set};
 ghost use Rattle.instruction.specs.Test.{passes, Holds};
 ghost use Rattle.frame.specs.Frame.{kind_of, digits_of, may_stand, may_end};
 ghost use Rattle.frame.specs.Places.{counted, place_of, stored, step_of, tables_with};
-
-use operands::{both, implies};
 
 // The kind of a frame. `Header` is a method's own frame, `Code` an instruction's.
 #[derive(Clone, Copy)]
@@ -82,27 +80,12 @@ fn may_stand(n: Counts, k: Kind) -> bool
     ensures value { result ≡ passes (may_stand n k) }
 {
     match k {
-        Kind::Class => both(
-            n.classes < 60,
-            both(n.fields == 0, both(n.statics == 0, n.methods == 0)),
-        ),
-        Kind::Field => both(
-            5 <= n.classes,
-            both(n.fields < 16, both(n.statics == 0, n.methods == 0)),
-        ),
-        Kind::Static => both(5 <= n.classes, both(n.statics < 16, n.methods == 0)),
-        Kind::Header => both(
-            5 <= n.classes,
-            both(n.methods < 16, implies(0 < n.methods, 0 < n.code)),
-        ),
-        Kind::Handler => both(
-            0 < n.methods,
-            both(n.methods <= 16, both(0 < n.code, n.handlers < 8)),
-        ),
-        Kind::Code => both(
-            0 < n.methods,
-            both(n.methods <= 16, both(n.code < 32, n.handlers == 0)),
-        ),
+        Kind::Class => n.classes < 60 && n.fields == 0 && n.statics == 0 && n.methods == 0,
+        Kind::Field => 5 <= n.classes && n.fields < 16 && n.statics == 0 && n.methods == 0,
+        Kind::Static => 5 <= n.classes && n.statics < 16 && n.methods == 0,
+        Kind::Header => 5 <= n.classes && n.methods < 16 && (n.methods == 0 || 0 < n.code),
+        Kind::Handler => 0 < n.methods && n.methods <= 16 && 0 < n.code && n.handlers < 8,
+        Kind::Code => 0 < n.methods && n.methods <= 16 && n.code < 32 && n.handlers == 0,
         Kind::Unknown => false,
     }
 }
@@ -111,7 +94,7 @@ fn may_stand(n: Counts, k: Kind) -> bool
 pub fn may_end(n: Counts) -> bool
     ensures value { result ≡ passes (may_end n) }
 {
-    both(5 <= n.classes, both(0 < n.methods, 0 < n.code))
+    5 <= n.classes && 0 < n.methods && 0 < n.code
 }
 
 // One frame more.
@@ -119,28 +102,35 @@ fn counted(n: Counts, k: Kind) -> Counts
     requires { Holds (may_stand n k) }
     ensures value { result ≡ counted n k }
 {
-    let mut m = n;
     match k {
-        Kind::Class => m.classes = n.classes + 1,
-        Kind::Field => m.fields = n.fields + 1,
-        Kind::Static => m.statics = n.statics + 1,
-        Kind::Header => {
-            m.methods = n.methods + 1;
-            m.code = 0;
-            m.handlers = 0;
-        }
-        Kind::Handler => m.handlers = n.handlers + 1,
-        Kind::Code => m.code = n.code + 1,
-        Kind::Unknown => {}
+        Kind::Class => Counts {
+            classes: n.classes + 1,
+            ..n
+        },
+        Kind::Field => Counts {
+            fields: n.fields + 1,
+            ..n
+        },
+        Kind::Static => Counts {
+            statics: n.statics + 1,
+            ..n
+        },
+        Kind::Header => Counts {
+            methods: n.methods + 1,
+            code: 0,
+            handlers: 0,
+            ..n
+        },
+        Kind::Handler => Counts {
+            handlers: n.handlers + 1,
+            ..n
+        },
+        Kind::Code => Counts {
+            code: n.code + 1,
+            ..n
+        },
+        Kind::Unknown => n,
     }
-    m
-}
-
-// One less, or 0.
-fn before(n: usize) -> usize
-    ensures value { result ≡ n - 1 }
-{
-    if 0 < n { n - 1 } else { 0 }
 }
 
 // Where the next frame of a kind goes.
@@ -148,7 +138,7 @@ fn place_of(n: Counts, k: Kind) -> Place
     requires { Holds (may_stand n k) }
     ensures value { result ≡ place_of n k }
 {
-    let m = before(n.methods);
+    let m = n.methods.saturating_sub(1);
     match k {
         Kind::Class => Place {
             word: 4 + n.classes,
@@ -201,11 +191,8 @@ fn write(t: &mut [u64], i: usize, w: u64)
 fn store(t: &mut [u64; 768], at: Place, fields: u64)
     ensures memory { t.new ≡ stored t.old at fields }
 {
-    let i = at.word;
-    let j = at.count;
-    let n = at.value;
-    write(&mut *t, i, fields);
-    write(&mut *t, j, n as u64);
+    write(&mut *t, at.word, fields);
+    write(&mut *t, at.count, at.value as u64);
 }
 
 // Takes a frame of a kind with these fields into the tables, or tells that it cannot stand after so many frames.

@@ -1,17 +1,11 @@
 -- What flags say that are made of others, and what holds of both cases of a choice. Assumes nothing.
 use mathlib.Core.Path.{◌≡◌, refl}
-use mathlib.Core.Bool.{Bool, true, false, not, ◌&&◌, ◌||◌}
+use mathlib.Core.Bool.{Bool, true, false, not, ◌||◌}
 use Prim.Native.Nat.{ℕ}
 use native.Mathlib.Omega.{arith}
 use Rattle.instruction.specs.Word.{pick}
-
-pub both_true : (a b : Bool) → a && b ≡ true → (a ≡ true) × (b ≡ true)
-both_true true b e = (refl, e)
-both_true false b e = let z : ◌≡◌ {A = ℕ} 0 1 = cc in absurd (omega arith)
-
-pub or_right : (a b : Bool) → b ≡ true → a || b ≡ true
-or_right true b e = refl
-or_right false b e = e
+-- std's laws of `&&` and `||`
+pub use Rattle.std.proofs.lemmas.Bool.{and_parts as both_true, or_right}
 
 -- `not a || b` says that b is true where a is
 pub if_use : (a b : Bool) → not a || b ≡ true → a ≡ true → b ≡ true

@@ -135,129 +135,107 @@ pub enum Instruction {
 }
 
 // The signed number that four bytes say, high byte first.
+#[tactic(auto, unfolding(crate::specs::Word::signed_of))]
 pub fn signed(x: u8, y: u8, z: u8, u: u8) -> i32
     ensures value { result ≡ signed_of x y z u }
 {
-    let bits = (((x as u32) * 256 + (y as u32)) * 256 + (z as u32)) * 256 + (u as u32);
-    number(bits)
-}
-
-// The signed number that 32 bits say.
-pub fn number(x: u32) -> i32
-    ensures value { result ≡ to_z w32 x }
-{
-    if x < 2147483648 {
-        x as i32
-    } else {
-        -1 - ((4294967295 - x) as i32)
-    }
-}
-
-// The bits of a signed number.
-pub fn bits(z: i32) -> u32
-    ensures value { result ≡ of_z w32 z }
-{
-    if z >= 0 {
-        z as u32
-    } else {
-        4294967295 - ((-1 - z) as u32)
-    }
+    i32::from_be_bytes([x, y, z, u])
 }
 
 // The condition of a number: what is none of 0 to 4 is le.
-pub fn condition_of(n: u8) -> Condition
-    ensures value { result ≡ condition_of n }
-{
-    match n {
-        0 => Condition::Eq,
-        1 => Condition::Ne,
-        2 => Condition::Lt,
-        3 => Condition::Ge,
-        4 => Condition::Gt,
-        _ => Condition::Le,
+impl From<u8> for Condition {
+    ghost from_gives = { λ n c. c ≡ condition_of n };
+
+    #[tactic(auto, unfolding(crate::specs::Word::condition_of))]
+    fn from(n: u8) -> Self {
+        match n {
+            0 => Self::Eq,
+            1 => Self::Ne,
+            2 => Self::Lt,
+            3 => Self::Ge,
+            4 => Self::Gt,
+            _ => Self::Le,
+        }
     }
 }
 
-// The condition of a test against zero, which stands as 6 to 11; any other number counts by its remainder.
-pub fn zero_condition_of(n: u8) -> Condition
-    ensures value { result ≡ condition_of (n % 6) }
-{
-    match n {
-        6 => Condition::Eq,
-        7 => Condition::Ne,
-        8 => Condition::Lt,
-        9 => Condition::Ge,
-        10 => Condition::Gt,
-        11 => Condition::Le,
-        _ => condition_of(n % 6),
-    }
-}
+impl From<Condition> for u8 {
+    ghost from_gives = { λ c n. n ≡ condition_number c };
 
-fn condition_number(c: Condition) -> u64
-    ensures value { result ≡ condition_number c }
-{
-    match c {
-        Condition::Eq => 0,
-        Condition::Ne => 1,
-        Condition::Lt => 2,
-        Condition::Ge => 3,
-        Condition::Gt => 4,
-        Condition::Le => 5,
+    fn from(c: Condition) -> Self {
+        match c {
+            Condition::Eq => 0,
+            Condition::Ne => 1,
+            Condition::Lt => 2,
+            Condition::Ge => 3,
+            Condition::Gt => 4,
+            Condition::Le => 5,
+        }
     }
 }
 
 // The operation of a number: what is none of 0 to 9 is ushr.
-pub fn operation_of(n: u32) -> Operation
-    ensures value { result ≡ operation_of n }
-{
-    match n {
-        0 => Operation::Add,
-        1 => Operation::Sub,
-        2 => Operation::Mul,
-        3 => Operation::Div,
-        4 => Operation::Rem,
-        5 => Operation::And,
-        6 => Operation::Or,
-        7 => Operation::Xor,
-        8 => Operation::Shl,
-        9 => Operation::Shr,
-        _ => Operation::Ushr,
+impl From<u32> for Operation {
+    ghost from_gives = { λ n o. o ≡ operation_of n };
+
+    #[tactic(auto, unfolding(crate::specs::Word::operation_of))]
+    fn from(n: u32) -> Self {
+        match n {
+            0 => Self::Add,
+            1 => Self::Sub,
+            2 => Self::Mul,
+            3 => Self::Div,
+            4 => Self::Rem,
+            5 => Self::And,
+            6 => Self::Or,
+            7 => Self::Xor,
+            8 => Self::Shl,
+            9 => Self::Shr,
+            _ => Self::Ushr,
+        }
     }
 }
 
-fn operation_number(o: Operation) -> u64
-    ensures value { result ≡ operation_number o }
-{
-    match o {
-        Operation::Add => 0,
-        Operation::Sub => 1,
-        Operation::Mul => 2,
-        Operation::Div => 3,
-        Operation::Rem => 4,
-        Operation::And => 5,
-        Operation::Or => 6,
-        Operation::Xor => 7,
-        Operation::Shl => 8,
-        Operation::Shr => 9,
-        Operation::Ushr => 10,
+impl From<Operation> for u32 {
+    ghost from_gives = { λ o n. n ≡ operation_number o };
+
+    fn from(o: Operation) -> Self {
+        match o {
+            Operation::Add => 0,
+            Operation::Sub => 1,
+            Operation::Mul => 2,
+            Operation::Div => 3,
+            Operation::Rem => 4,
+            Operation::And => 5,
+            Operation::Or => 6,
+            Operation::Xor => 7,
+            Operation::Shl => 8,
+            Operation::Shr => 9,
+            Operation::Ushr => 10,
+        }
     }
 }
 
 // The operation of a number: what is not 0 is not.
-pub fn unary_of(n: u8) -> Unary
-    ensures value { result ≡ unary_of n }
-{
-    match n {
-        0 => Unary::Neg,
-        _ => Unary::Not,
+impl From<u8> for Unary {
+    ghost from_gives = { λ n u. u ≡ unary_of n };
+
+    #[tactic(auto, unfolding(crate::specs::Word::unary_of))]
+    fn from(n: u8) -> Self {
+        match n {
+            0 => Self::Neg,
+            _ => Self::Not,
+        }
     }
 }
 
-fn unary_number(u: Unary) -> u64
-    ensures value { result ≡ unary_number u }
-{
-    match u {
-        Unary::Neg => 0,
-        Unary::Not => 1,
+impl From<Unary> for u8 {
+    ghost from_gives = { λ u n. n ≡ unary_number u };
+
+    fn from(u: Unary) -> Self {
+        match u {
+            Unary::Neg => 0,
+            Unary::Not => 1,
+        }
     }
 }

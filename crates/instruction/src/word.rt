@@ -2,46 +2,46 @@
 ghost use Rattle.std.specs.Prelude.{◌≡◌};
 ghost use Rattle.instruction.specs.Word.{fields_of, instruction_of, packed, word_of};
 
-use super::{
-    Instruction, bits, condition_number, condition_of, operation_number, operation_of, signed,
-    unary_number, unary_of, zero_condition_of,
-};
+use super::{Condition, Instruction, Operation, Unary};
 
-// The instruction of opcode o with the fields a, b, c and d, and d as a signed number.
-fn fields(o: u8, a: u8, b: u8, c: u8, d: u32, value: i32) -> Instruction
-    ensures value { result ≡ fields_of o a b c d value }
+// The instruction of a word.
+#[tactic(auto, unfolding(crate::specs::Word::instruction_of, crate::specs::Word::fields_of, crate::specs::Word::signed_of))]
+pub fn decode(w: u64) -> Instruction
+    ensures value { result ≡ instruction_of w }
 {
+    let [o, a, b, c, x, y, z, u] = w.to_be_bytes();
+    let d = u32::from_be_bytes([x, y, z, u]);
     match o {
         1 => Instruction::Move { to: a, from: b },
         2 => Instruction::Const {
             to: a,
-            value: value,
+            value: d.cast_signed(),
         },
         3 => Instruction::Goto { target: d },
         4 => {
             if c < 6 {
                 Instruction::If {
-                    condition: condition_of(c),
+                    condition: Condition::from(c),
                     left: a,
                     right: b,
                     target: d,
                 }
             } else {
                 Instruction::IfZero {
-                    condition: zero_condition_of(c),
+                    condition: Condition::from(c % 6),
                     register: a,
                     target: d,
                 }
             }
         }
         5 => Instruction::Binop {
-            operation: operation_of(d),
+            operation: Operation::from(d),
             to: a,
             left: b,
             right: c,
         },
         6 => Instruction::Unop {
-            operation: unary_of(c),
+            operation: Unary::from(c),
             to: a,
             from: b,
         },
@@ -86,27 +86,12 @@ fn fields(o: u8, a: u8, b: u8, c: u8, d: u32, value: i32) -> Instruction
     }
 }
 
-// The instruction of a word.
-pub fn decode(w: u64) -> Instruction
-    ensures value { result ≡ instruction_of w }
-{
-    let o = (w / 72057594037927936) as u8;
-    let a = (w / 281474976710656 % 256) as u8;
-    let b = (w / 1099511627776 % 256) as u8;
-    let c = (w / 4294967296 % 256) as u8;
-    let d = (w % 4294967296) as u32;
-    let x = (w / 16777216 % 256) as u8;
-    let y = (w / 65536 % 256) as u8;
-    let z = (w / 256 % 256) as u8;
-    let u = (w % 256) as u8;
-    fields(o, a, b, c, d, signed(x, y, z, u))
-}
-
 // The word of the fields o a b c d.
 fn pack(o: u8, a: u8, b: u8, c: u8, d: u32) -> u64
     ensures value { result ≡ packed o a b c d }
 {
-    (((o as u64 * 256 + a as u64) * 256 + b as u64) * 256 + c as u64) * 4294967296 + d as u64
+    let [x, y, z, u] = d.to_be_bytes();
+    u64::from_be_bytes([o, a, b, c, x, y, z, u])
 }
 
 // The word of an instruction: unused fields are 0.
@@ -116,36 +101,30 @@ pub fn encode(i: Instruction) -> u64
     match i {
         Instruction::Nop => pack(0, 0, 0, 0, 0),
         Instruction::Move { to, from } => pack(1, to, from, 0, 0),
-        Instruction::Const { to, value } => pack(2, to, 0, 0, bits(value)),
+        Instruction::Const { to, value } => pack(2, to, 0, 0, value.cast_unsigned()),
         Instruction::Goto { target } => pack(3, 0, 0, 0, target),
         Instruction::If {
             condition,
             left,
             right,
             target,
-        } => pack(4, left, right, condition_number(condition) as u8, target),
+        } => pack(4, left, right, u8::from(condition), target),
         Instruction::IfZero {
             condition,
             register,
             target,
-        } => pack(
-            4,
-            register,
-            0,
-            (6 + condition_number(condition)) as u8,
-            target,
-        ),
+        } => pack(4, register, 0, 6 + u8::from(condition), target),
         Instruction::Binop {
             operation,
             to,
             left,
             right,
-        } => pack(5, to, left, right, operation_number(operation) as u32),
+        } => pack(5, to, left, right, u32::from(operation)),
         Instruction::Unop {
             operation,
             to,
             from,
-        } => pack(6, to, from, unary_number(operation) as u8, 0),
+        } => pack(6, to, from, u8::from(operation), 0),
         Instruction::NewInstance { to, class } => pack(7, to, class, 0, 0),
         Instruction::Iget { to, object, field } => pack(8, to, object, field, 0),
         Instruction::Iput {

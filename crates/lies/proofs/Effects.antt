@@ -19,7 +19,7 @@ use Rattle.turn.specs.Stop.{room, stop_of}
 use Rattle.turn.proofs.Stops.{running_stop}
 use Rattle.cells.specs.Cells.{zero_value, frame_of, objects_of, statics_of}
 use Rattle.cells.specs.Reads as reads
-use Rattle.cells.proofs.Values.{add-one}
+use native.Mathlib.Numerals.{add-one}
 use Rattle.store.specs.Store.{with_register}
 use Rattle.site.specs.declared.Work.{Work}
 use Rattle.site.specs.Work.{nowhere, work_of}

@@ -1,4 +1,5 @@
 -- An instruction that stays in its frame loads no cell and no static but those that the code reads for it. Assumes nothing.
+use Rattle.std.specs.Prelude.{Option, Some, None}
 use mathlib.Core.Path.{◌≡◌, refl}
 use mathlib.Core.Bool.{Bool, false}
 use Prim.Native.Nat.{ℕ}
@@ -7,12 +8,9 @@ use lib.IntN.{ℤ}
 use Rattle.instruction.specs.declared.Condition.{Condition}
 use Rattle.instruction.specs.declared.Condition.TheVariants.{Eq, Ne, Lt, Ge, Gt, Le}
 use Rattle.instruction.specs.declared.Instruction.{Instruction}
-use Rattle.instruction.specs.declared.Instruction.TheVariants.{Iget, Iput, Sget, Sput, Binop}
 use Rattle.instruction.specs.declared.Operation.{Operation}
 use Rattle.instruction.specs.declared.Unary.{Unary}
 use Rattle.instruction.specs.Word.{pick, operation_of, unary_of}
-use Rattle.arithmetic.specs.declared.Computed.{Computed}
-use Rattle.arithmetic.specs.declared.Computed.TheVariants.{Number as Result, ByZero}
 use Rattle.arithmetic.specs.Arithmetic.{is_zero, computed, in_order}
 use Rattle.program.specs.Program.{Program}
 use Rattle.search.specs.Search.{below, has_field}
@@ -26,7 +24,7 @@ use Rattle.machine.specs.Decide.{not_object, computed_into, binop, unop, compare
 use Rattle.instruction.proofs.Flags.{pick_cases}
 use Rattle.site.specs.declared.Site.{Site}
 use Rattle.site.specs.Site.{opcode_of, a_of, b_of, c_of, d_of, want_of}
-use Rattle.site.specs.Work.{decided, plain_of, branch_of, classed_of}
+use Rattle.site.specs.Work.{decided, binop_of, branch_of, iget_of, iput_of, sget_of, sput_of, classed_of, plain_of}
 
 -- an effect that stays in its frame; x is the first value read, and what is loaded is the field of x, or the static, read too
 abbrev pub Looks : Value → Site → Effect → Type 0
@@ -66,9 +64,9 @@ module _ (p : Program) (x : Value) (t : Site) (k : ℕ) where
   branch_looks c (Reference q) (Number z) d = compared_looks c false d
   branch_looks c (Reference q) (Reference r) d = compared_looks c (eqb q r) d
 
-  computed_looks : (a : ℕ) (r : Computed) → Looks x t (computed_into a r)
-  computed_looks a (Result z) = tt
-  computed_looks a ByZero = tt
+  computed_looks : (a : ℕ) (r : Option ℤ) → Looks x t (computed_into a r)
+  computed_looks a (Some z) = tt
+  computed_looks a None = tt
 
   binop_looks : (a : ℕ) (o : Operation) (v w : Value) → Looks x t (binop a o v w)
   binop_looks a o (Number y) (Number z) = computed_looks a (computed o y z)
@@ -106,7 +104,7 @@ module _ (p : Program) (x : Value) (t : Site) (k : ℕ) where
     choice : (b : Bool) (i j : Instruction) → Decides i → Decides j → Decides (pick b i j)
     choice b i j h g = pick_cases Decides b i j (λ _. h) (λ _. g)
 
-    pub binop_stays : Decides (Binop (operation_of (d_of t.word)) (a_of t.word) (b_of t.word) (c_of t.word))
+    pub binop_stays : Decides (binop_of t.word)
     binop_stays = binop_looks (a_of t.word) (operation_of (d_of t.word)) x y
 
     pub branch_stays : Decides (branch_of t.word)
@@ -114,18 +112,18 @@ module _ (p : Program) (x : Value) (t : Site) (k : ℕ) where
     branch_stays =
         choice (ltb (c_of t.word) 6) _ _ (branch_looks _ x y (d_of t.word)) (branch_looks _ x null (d_of t.word))
 
-    pub iget_stays : Decides (Iget (a_of t.word) (b_of t.word) (c_of t.word))
+    pub iget_stays : Decides (iget_of t.word)
     unfolding want_of
     iget_stays = get_looks (a_of t.word) (c_of t.word) x refl refl
 
-    pub iput_stays : Decides (Iput (a_of t.word) (b_of t.word) (c_of t.word))
+    pub iput_stays : Decides (iput_of t.word)
     iput_stays = put_looks (c_of t.word) y x
 
-    pub sget_stays : Decides (Sget (a_of t.word) (b_of t.word))
+    pub sget_stays : Decides (sget_of t.word)
     unfolding want_of
     sget_stays = refl
 
-    pub sput_stays : Decides (Sput (a_of t.word) (b_of t.word))
+    pub sput_stays : Decides (sput_of t.word)
     sput_stays = tt
 
     pub class_stays : Decides (classed_of t.word)

@@ -9,8 +9,7 @@ use lib.Dec.{eqb}
 use lib.ListN.{length}
 use borrow.Author.Tests.{eqb-true}
 use Rattle.instruction.specs.declared.Instruction.{Instruction}
-use Rattle.instruction.specs.declared.Instruction.TheVariants.{Binop, Iget, Iput, Sget, Sput}
-use Rattle.instruction.specs.Word.{pick, operation_of, instruction_of}
+use Rattle.instruction.specs.Word.{pick, instruction_of}
 use Rattle.instruction.specs.Test.{Holds}
 use Rattle.operands.specs.Names.{named}
 use Rattle.values.specs.Values.{limits_of}
@@ -39,12 +38,12 @@ use Rattle.laid.proofs.Objects.{objects_same}
 use Rattle.laid.proofs.Statics.{statics_same}
 use Rattle.site.specs.declared.Gone.{Gone}
 use Rattle.site.specs.declared.Site.{Site}
-use Rattle.site.specs.Site.{opcode_of, a_of, b_of, c_of, d_of, is_class, leaves_by, leaves_of, left_at}
-use Rattle.site.specs.Work.{decided, decided_in, plain_of, branch_of, classed_of}
+use Rattle.site.specs.Site.{opcode_of, is_class, leaves_by, leaves_of}
+use Rattle.site.specs.Work.{decided, decided_in, binop_of, branch_of, iget_of, iput_of, sget_of, sput_of, classed_of, plain_of}
 use Rattle.site.proofs.Decided.{decided_wanted}
 use Rattle.site.proofs.Chosen.{branch_chosen, binop_chosen, iget_chosen, iput_chosen, sget_chosen, sput_chosen, class_chosen, plain_chosen}
 use Rattle.drive.specs.Models.{Lent, Done, done}
-use Rattle.work.specs.Work.{first_in, second_in, result_in, class_in, worked_on, worked, work_on, binop_done, branch_done, iget_done, iput_done, sget_done, sput_done, class_done, plain_done, from_class, from_leaving, from_sput, from_sget, from_iput, from_iget, from_branch, performed}
+use Rattle.work.specs.Work.{first_in, second_in, result_in, class_in, worked_on, worked, done_by, performed}
 use Rattle.lies.specs.Lies.{Roomy, Lies}
 use Rattle.lies.specs.Staying.{site_at, Stayed}
 use Rattle.lies.proofs.Values.{Ready, method, site, first, second, first_read, second_read, result_read, class_read}
@@ -92,15 +91,15 @@ module _ (t : List ℕ) {s : State} {before : Lent} {k : Tally} {now : Lent} {f 
   Stays r = Stayed (program_in t) s before k now f rest r
 
   -- an instruction that stays in its frame
-  arm : (i : Site → Instruction) → ((p : Program) (x : machine.Value) (a : Site) (c : ℕ) (y z : machine.Value) → Looks x a (decided p x y z c (i a)))
-      → leaves_of at ≡ false → i at ≡ instruction_of at.word → Stays (worked (work_on i) t now at)
+  arm : (i : ℕ → Instruction) → ((p : Program) (x : machine.Value) (a : Site) (c : ℕ) (y z : machine.Value) → Looks x a (decided p x y z c (i a.word)))
+      → leaves_of at ≡ false → i at.word ≡ instruction_of at.word → Stays (done_by i t now at)
   unfolding worked decided_in
   arm i looks stays chosen =
       subst (λ (e : Effect). Stays (done (work_by h e).gone (worked_on now (length rest) (work_by h e))))
-      (sym (effect_read h stays (i at) chosen))
+      (sym (effect_read h stays (i at.word) chosen))
       (gone h (effect_at (program_in t) s f) refl
       (decided_fits (program_in t) h.formed s h.shaped f rest h.here.frames h.here.inside)
-      (subst (λ (e : Effect). Looks (first h) at e) (effect_is h stays (i at) chosen) (looks (program_in t) _ at _ _ _)))
+      (subst (λ (e : Effect). Looks (first h) at e) (effect_is h stays (i at.word) chosen) (looks (program_in t) _ at _ _ _)))
 
   -- a test of the opcode
   tested : (n : ℕ) (x y : Done Gone) → (opcode_of at.word ≡ n → Stays x) → (eqb (opcode_of at.word) n ≡ false → Stays y)
@@ -109,29 +108,23 @@ module _ (t : List ℕ) {s : State} {before : Lent} {k : Tally} {now : Lent} {f 
 
   ready_stayed : Stays (performed t now at)
   ready_stayed =
-      tested 5 (binop_done t now at) (from_branch t now at)
-      (λ e. arm (λ s. Binop (operation_of (d_of s.word)) (a_of s.word) (b_of s.word) (c_of s.word)) binop_stays (ap leaves_by e) (binop_chosen at.word e))
+      tested 5 _ _ (λ e. arm binop_of binop_stays (ap leaves_by e) (binop_chosen at.word e))
       (λ e5.
-      tested 4 (branch_done t now at) (from_iget t now at)
-      (λ e. arm (λ s. branch_of s.word) branch_stays (ap leaves_by e) (branch_chosen at.word e))
+      tested 4 _ _ (λ e. arm branch_of branch_stays (ap leaves_by e) (branch_chosen at.word e))
       (λ e4.
-      tested 8 (iget_done t now at) (from_iput t now at)
-      (λ e. arm (λ s. Iget (a_of s.word) (b_of s.word) (c_of s.word)) iget_stays (ap leaves_by e) (iget_chosen at.word e))
+      tested 8 _ _ (λ e. arm iget_of iget_stays (ap leaves_by e) (iget_chosen at.word e))
       (λ e8.
-      tested 9 (iput_done t now at) (from_sget t now at)
-      (λ e. arm (λ s. Iput (a_of s.word) (b_of s.word) (c_of s.word)) iput_stays (ap leaves_by e) (iput_chosen at.word e))
+      tested 9 _ _ (λ e. arm iput_of iput_stays (ap leaves_by e) (iput_chosen at.word e))
       (λ e9.
-      tested 10 (sget_done t now at) (from_sput t now at)
-      (λ e. arm (λ s. Sget (a_of s.word) (b_of s.word)) sget_stays (ap leaves_by e) (sget_chosen at.word e))
+      tested 10 _ _ (λ e. arm sget_of sget_stays (ap leaves_by e) (sget_chosen at.word e))
       (λ e10.
-      tested 11 (sput_done t now at) (from_leaving t now at)
-      (λ e. arm (λ s. Sput (a_of s.word) (b_of s.word)) sput_stays (ap leaves_by e) (sput_chosen at.word e))
+      tested 11 _ _ (λ e. arm sput_of sput_stays (ap leaves_by e) (sput_chosen at.word e))
       (λ e11.
-      pick_cases Stays (leaves_of at) (done (left_at at) now) (from_class t now at) (λ e. ((refl, refl), e))
+      pick_cases Stays (leaves_of at) _ _ (λ e. ((refl, refl), e))
       (λ stays.
-      pick_cases Stays (is_class at) (class_done t now at) (plain_done t now at)
-      (λ e. arm (λ s. classed_of s.word) class_stays stays (class_chosen at.word e))
-      (λ e. arm (λ s. plain_of s.word) plain_stays stays (plain_chosen at.word stays e4 e5 e8 e9 e10 e11 e)))))))))
+      pick_cases Stays (is_class at) _ _
+      (λ e. arm classed_of class_stays stays (class_chosen at.word e))
+      (λ e. arm plain_of plain_stays stays (plain_chosen at.word stays e4 e5 e8 e9 e10 e11 e)))))))))
 
 -- ---- the instruction that stays in its frame, and the fault
 

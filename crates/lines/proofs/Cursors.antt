@@ -12,15 +12,6 @@ use Rattle.lines.specs.Cursors.{wrapped, cursor, past, found_at}
 wrapped_small : (n : ℕ) → n < 2 ^ 64 → wrapped n ≡ n
 wrapped_small n h = omega arith
 
--- a sum of three, by two at a time
-wrapped_sum : (a b : ℕ) → wrapped (wrapped a + b) ≡ wrapped (a + b)
-wrapped_sum a b = omega arith
-
--- the cursor of such sums, after a whole line
-pub past_whole : (at line n : ℕ) (read : LineRead) → read ≡ Whole n → (end next number : ℕ) → end ≡ wrapped (at + n)
-    → next ≡ wrapped (end + 1) → number ≡ wrapped (line + 1) → cursor next number ≡ past (cursor at line) read
-past_whole at line n read e end next number f g h = rw (e, g, f, h, wrapped_sum (at + n) 1)
-
 -- a whole line of n digits stands at a place of a text: its digits and its end, and the lines after it are those of what follows its end
 abbrev pub Standing : List ℕ → ℕ → ℕ → Type 0
 Standing s at n =

@@ -1,12 +1,11 @@
 // A reader of lines: a text, a place in it and the number of the line there. Program reader and claim reader both go through it.
-// The functions over a reader are thin; `read_line` stands above them with plain parameters.
+// `read_line` stands above its methods with plain parameters.
 #![tactic(auto)]
 
 ghost use Rattle.std.specs.Prelude.{◌≡◌, drop};
 ghost use Rattle.text.specs.Hex.{lines_of, line_read_of};
 ghost use Rattle.lines.specs.Cursors.{cursor, past, cursor_of, reader_at, found_at};
 
-use std::num::wrapping_add_usize;
 use text::LineRead;
 
 // A text, the place in it where the next line begins, and that line's number.
@@ -31,57 +30,55 @@ pub struct Found {
     pub next: Cursor,
 }
 
-// The cursor after what was read at a place: past a whole line and its end, one line on; else the same.
-fn past(at: usize, line: usize, read: LineRead) -> Cursor
-    ensures value { result ≡ past (cursor at line) read }
-{
-    match read {
-        LineRead::Whole(digits) => Cursor {
-            at: wrapping_add_usize(wrapping_add_usize(at, digits), 1),
-            line: wrapping_add_usize(line, 1),
-        },
-        LineRead::Broken => Cursor { at, line },
-        LineRead::End => Cursor { at, line },
+impl Cursor {
+    // The cursor after what was read here: past a whole line and its end, one line on; else the same.
+    fn past(self, read: LineRead) -> Self
+        ensures value { result ≡ past self read }
+    {
+        match read {
+            LineRead::Whole(digits) => Cursor {
+                at: self.at.wrapping_add(digits).wrapping_add(1),
+                line: self.line.wrapping_add(1),
+            },
+            LineRead::Broken | LineRead::End => self,
+        }
     }
 }
 
-// The reader of a text at a cursor.
-pub fn reader_at<'a>(text: &'a [u8], from: Cursor) -> LineReader<'a>
-    ensures reader { result ≡ reader_at text.entry from }
-{
-    LineReader {
-        text,
-        at: from.at,
-        line: from.line,
+impl<'a> LineReader<'a> {
+    // The reader of a text at a cursor.
+    pub fn new(text: &'a [u8], from: Cursor) -> Self
+        ensures reader { result ≡ reader_at text.entry from }
+    {
+        LineReader {
+            text,
+            at: from.at,
+            line: from.line,
+        }
     }
-}
 
-// The line that stands there.
-pub fn peek<'a>(r: LineReader<'a>) -> LineRead
-    ensures line { result ≡ line_read_of (lines_of (drop r.entry.at r.entry.text.now)) }
-{
-    text::line_at(r.text, r.at)
-}
-
-// The reader after a line that was read.
-pub fn advance<'a>(r: LineReader<'a>, read: LineRead) -> LineReader<'a>
-    ensures reader { result ≡ reader_at r.entry.text (past (cursor_of r.entry) read) }
-{
-    let next = past(r.at, r.line, read);
-    LineReader {
-        text: r.text,
-        at: next.at,
-        line: next.line,
+    // The line that stands there.
+    pub fn peek(self) -> LineRead
+        ensures line { result ≡ line_read_of (lines_of (drop self.entry.at self.entry.text.now)) }
+    {
+        text::line_at(self.text, self.at)
     }
-}
 
-// Where a reader stands.
-pub fn place<'a>(r: LineReader<'a>) -> Cursor
-    ensures place { result ≡ cursor_of r.entry }
-{
-    Cursor {
-        at: r.at,
-        line: r.line,
+    // The reader after a line that was read.
+    pub fn advance(self, read: LineRead) -> Self
+        ensures reader { result ≡ reader_at self.entry.text (past (cursor_of self.entry) read) }
+    {
+        Self::new(self.text, self.place().past(read))
+    }
+
+    // Where a reader stands.
+    pub fn place(self) -> Cursor
+        ensures place { result ≡ cursor_of self.entry }
+    {
+        Cursor {
+            at: self.at,
+            line: self.line,
+        }
     }
 }
 
@@ -89,8 +86,8 @@ pub fn place<'a>(r: LineReader<'a>) -> Cursor
 pub fn read_line(text: &[u8], from: Cursor) -> Found
     ensures line { result ≡ found_at text.now from }
 {
-    let r = reader_at(text, from);
-    let read = peek(r);
-    let next = place(advance(r, read));
+    let reader = LineReader::new(text, from);
+    let read = reader.peek();
+    let next = reader.advance(read).place();
     Found { read, next }
 }

@@ -4,9 +4,8 @@ use mathlib.Core.List.{List, [], ◌∷◌, ◌++◌}
 use Prim.Native.Nat.{ℕ, suc, ◌+◌, ◌≤◌, ◌<◌}
 use native.Mathlib.Omega.{arith}
 use lib.ListN.{length, get_or, set, length-append, length-set}
+use Rattle.std.specs.Prelude.{Option, Some, None}
 use Rattle.program.specs.Program.{Program}
-use Rattle.search.specs.declared.Handling.{Handling}
-use Rattle.search.specs.declared.Handling.TheVariants.{Caught, Uncaught}
 use Rattle.machine.specs.declared.Value.{Value}
 use Rattle.machine.specs.declared.Value.TheVariants.{Reference}
 use Rattle.machine.specs.declared.Effect.{Effect}
@@ -54,9 +53,9 @@ module _ (p : Program) (s : State) (shaped : Shaped p s) where
   dropped_shaped o (g ∷ rest) k h = with_frames_lem (g ∷ rest) (raised o) h k
 
   unwound_by_lem : (f : Frame) (rest : List Frame) → Every (ShapedFrame p (length s.objects)) (f ∷ rest) → (o : ℕ) → o < length s.objects
-      → (r : Handling) → Shaped p (unwound p s f rest o r)
-  unwound_by_lem f rest h o k (Caught i) = with_frames_lem _ running (resumed_shaped p _ f _ (Reference o) k h.0, h.1) tt
-  unwound_by_lem f rest h o k Uncaught = dropped_shaped o rest k h.1
+      → (r : Option ℕ) → Shaped p (unwound p s f rest o r)
+  unwound_by_lem f rest h o k (Some i) = with_frames_lem _ running (resumed_shaped p _ f _ (Reference o) k h.0, h.1) tt
+  unwound_by_lem f rest h o k None = dropped_shaped o rest k h.1
 
   module _ (f : Frame) (rest : List Frame) (h : Every (ShapedFrame p (length s.objects)) (f ∷ rest)) where
     -- the top frame with a register written
@@ -134,5 +133,5 @@ pub applied_shaped : (p : Program) → (s : State) → Shaped p s → (f : Frame
 applied_shaped p s shaped f rest e = applied p s shaped f rest (top_shaped p s shaped f rest e)
 
 pub unwound_shaped : (p : Program) → (s : State) → Shaped p s → (f : Frame) (rest : List Frame) → s.frames ≡ f ∷ rest → (o : ℕ)
-    → o < length s.objects → (r : Handling) → Shaped p (unwound p s f rest o r)
+    → o < length s.objects → (r : Option ℕ) → Shaped p (unwound p s f rest o r)
 unwound_shaped p s shaped f rest e = unwound_by_lem p s shaped f rest (top_shaped p s shaped f rest e)

@@ -3,10 +3,9 @@ use mathlib.Core.Path.{◌≡◌, refl, ap, ◌∙◌}
 use mathlib.Core.List.{List, [], ◌∷◌}
 use Prim.Native.Nat.{ℕ, zero, suc}
 use lib.Dec.{ltb}
+use Rattle.std.specs.Prelude.{Option, Some, None}
 use Rattle.instruction.specs.Word.{pick}
 use Rattle.program.specs.Program.{Program, code_length}
-use Rattle.search.specs.declared.Handling.{Handling}
-use Rattle.search.specs.declared.Handling.TheVariants.{Caught, Uncaught}
 use Rattle.search.specs.Search.{handler_for}
 use Rattle.search.specs.Lines.{target_of}
 use Rattle.search.proofs.FirstLine.{same_target}
@@ -16,10 +15,10 @@ use Rattle.machine.specs.ByLine.{unwound_to, line_step_by, line_run}
 
 module _ (p : Program) where
   -- of a handler a step asks its target alone
-  by_target : (s : State) (f : Frame) (rest : List Frame) (o : ℕ) (r : Handling)
+  by_target : (s : State) (f : Frame) (rest : List Frame) (o : ℕ) (r : Option ℕ)
       → unwound p s f rest o r ≡ unwound_to s f rest o (target_of p f.method r)
-  by_target s f rest o (Caught h) = refl
-  by_target s f rest o Uncaught = refl
+  by_target s f rest o (Some h) = refl
+  by_target s f rest o None = refl
 
   step_by_line : (s : State) (e : Status) (fs : List Frame) → step_by p s e fs ≡ line_step_by p s e fs
   step_by_line s e [] = refl

@@ -6,10 +6,9 @@ use Prim.Native.Nat.{ℕ, zero, suc, ◌+◌, ◌<◌}
 use native.Mathlib.Nat.{add-zero, add-suc}
 use lib.Dec.{ltb}
 use borrow.Author.Tests.{ltb-true, lt-ltb}
+use Rattle.std.specs.Prelude.{Option, Some, None}
 use Rattle.instruction.specs.Word.{pick}
 use Rattle.program.specs.Program.{Program, code_length, instruction_at}
-use Rattle.search.specs.declared.Handling.{Handling}
-use Rattle.search.specs.declared.Handling.TheVariants.{Caught, Uncaught}
 use Rattle.search.specs.Search.{handler_for}
 use Rattle.machine.specs.declared.Fault.{Fault}
 use Rattle.machine.specs.declared.Effect.{Effect}
@@ -25,7 +24,7 @@ use Rattle.instruction.proofs.Flags.{pick_cases}
 abbrev pub effect_at : Program → State → Frame → Effect
 effect_at p s f = decide p s f (instruction_at p f.method f.address)
 
-abbrev pub handling_at : Program → State → Frame → ℕ → Handling
+abbrev pub handling_at : Program → State → Frame → ℕ → Option ℕ
 handling_at p s f o = handler_for p f.method f.address (object_at s o).class
 
 -- a state with this status, and f on top of its frames at an address inside its method
@@ -114,10 +113,10 @@ module _ (p : Program) where
     fault_apply f rest (RaiseNew k) h = absurd h
     fault_apply f rest (Fail e) h = refl
 
-    fault_unwound : (f : Frame) (rest : List Frame) (o : ℕ) (g : Handling) → Faulty (unwound p s f rest o g).status → ⊥
-    fault_unwound f rest o (Caught g) h = h
-    fault_unwound f [] o Uncaught h = h
-    fault_unwound f (g ∷ rest) o Uncaught h = h
+    fault_unwound : (f : Frame) (rest : List Frame) (o : ℕ) (g : Option ℕ) → Faulty (unwound p s f rest o g).status → ⊥
+    fault_unwound f rest o (Some g) h = h
+    fault_unwound f [] o None h = h
+    fault_unwound f (g ∷ rest) o None h = h
 
     fault_by : (t : State) → Stepped p s t → Faulty t.status → t ≡ with_status s t.status
     fault_by t (runs f rest h e) fault = rw e (fault_apply f rest (effect_at p s f) (rw e at fault))

@@ -1,5 +1,6 @@
 -- What an instruction of a well-formed program decides, at the top frame of a shaped state, names only what exists. Assumes
 -- nothing.
+use Rattle.std.specs.Prelude.{Option, Some, None}
 use mathlib.Core.Path.{◌≡◌, refl}
 use mathlib.Core.Bool.{Bool, false}
 use mathlib.Core.List.{List, ◌∷◌}
@@ -19,13 +20,9 @@ use Rattle.instruction.specs.declared.Instruction.TheVariants.{Nop, Move, Const,
 use Rattle.instruction.specs.Test.{Holds}
 use Rattle.instruction.specs.Word.{pick}
 use Rattle.operands.specs.Names.{named}
-use Rattle.arithmetic.specs.declared.Computed.{Computed}
-use Rattle.arithmetic.specs.declared.Computed.TheVariants.{Number as Result, ByZero}
 use Rattle.arithmetic.specs.Arithmetic.{is_zero, computed, in_order}
 use Rattle.program.specs.Program.{Program, class_count, field_count, method_count, registers, arguments, code_length, instruction_at}
 use Rattle.values.specs.Values.{limits_of, call_test}
-use Rattle.search.specs.declared.Callee.{Callee}
-use Rattle.search.specs.declared.Callee.TheVariants.{Found, Missing}
 use Rattle.search.specs.Search.{below, has_field, virtual_callee}
 use Rattle.reader.specs.Formed.{Formed}
 use Rattle.machine.specs.declared.Value.{Value}
@@ -78,9 +75,9 @@ module _ (p : Program) (five : 5 ≤ class_count p) (s : State) (f : Frame) wher
   put_fits k x u (Reference o) l g h = either (has_field p k x) _ _ (h, l, g) tt
 
   module _ (b c : ℕ) (l : c + b ≤ length f.registers) where
-    call_fits : (r : Callee) → ((m : ℕ) → r ≡ Found m → (m < method_count p) × (arguments p m ≡ b)) → Fitting p s f (call_of r c)
-    call_fits (Found m) h = let g = h m refl in (g.0, rw g.1 l)
-    call_fits Missing h = tt
+    call_fits : (r : Option ℕ) → ((m : ℕ) → r ≡ Some m → (m < method_count p) × (arguments p m ≡ b)) → Fitting p s f (call_of r c)
+    call_fits (Some m) h = let g = h m refl in (g.0, rw g.1 l)
+    call_fits None h = tt
 
     virtual_fits : (k n : ℕ) (v : Value) → Fitting p s f (virtual_call p k n b c v)
     virtual_fits k n (Number z) = not_object_lem z
@@ -88,9 +85,9 @@ module _ (p : Program) (five : 5 ≤ class_count p) (s : State) (f : Frame) wher
 
   -- what writes register a
   module _ (a : ℕ) (l : a < length f.registers) where
-    computed_fits : (r : Computed) → Fitting p s f (computed_into a r)
-    computed_fits (Result z) = (l, tt)
-    computed_fits ByZero = omega arith
+    computed_fits : (r : Option ℤ) → Fitting p s f (computed_into a r)
+    computed_fits (Some z) = (l, tt)
+    computed_fits None = omega arith
 
     binop_fits : (o : Operation) (v w : Value) → Fitting p s f (binop a o v w)
     binop_fits o (Number x) (Number y) = computed_fits (computed o x y)

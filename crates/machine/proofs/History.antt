@@ -7,11 +7,9 @@ use native.Mathlib.Nat.{lt_irrefl}
 use native.Mathlib.Omega.{arith}
 use lib.ListN.{length}
 use borrow.Author.Tests.{lt-ltb, le-ltb}
+use Rattle.std.specs.Prelude.{Option, Some, None}
 use Rattle.instruction.specs.declared.Instruction.TheVariants.{InvokeVirtual, InvokeStatic}
 use Rattle.program.specs.Program.{Program}
-use Rattle.search.specs.declared.Callee.TheVariants.{Found}
-use Rattle.search.specs.declared.Handling.{Handling}
-use Rattle.search.specs.declared.Handling.TheVariants.{Caught, Uncaught}
 use Rattle.search.specs.Search.{virtual_callee}
 use Rattle.machine.specs.declared.Value.TheVariants.{Reference}
 use Rattle.machine.specs.declared.Effect.{Effect}
@@ -58,9 +56,9 @@ module _ (p : Program) (s : State) where
   longer_apply f rest (RaiseNew k) here l = absurd (omega (arith, ap length here))
   longer_apply f rest (Fail e) here l = absurd (omega (arith, ap length here))
 
-  unwound_most : (f : Frame) (rest : List Frame) (o : ℕ) (h : Handling) → length (unwound p s f rest o h).frames ≤ length (f ∷ rest)
-  unwound_most f rest o (Caught h) = omega arith
-  unwound_most f rest o Uncaught = rw dropped_frames (omega arith)
+  unwound_most : (f : Frame) (rest : List Frame) (o : ℕ) (h : Option ℕ) → length (unwound p s f rest o h).frames ≤ length (f ∷ rest)
+  unwound_most f rest o (Some h) = omega arith
+  unwound_most f rest o None = rw dropped_frames (omega arith)
 
   longer_by : (t : State) → Stepped p s t → length s.frames < length t.frames → Calling p s
   longer_by t (runs f rest h e) l =
@@ -115,7 +113,7 @@ module _ (p : Program) (s : State) (f : Frame) where
   pub static_effect : (m b c : ℕ) → decide p s f (InvokeStatic m b c) ≡ Call m c
   static_effect m b c = refl
 
-  pub virtual_effect : (name b c o m : ℕ) → register f c ≡ Reference o → virtual_callee p (object_at s o).class name b ≡ Found m → decide p s f (InvokeVirtual name b c) ≡ Call m c
+  pub virtual_effect : (name b c o m : ℕ) → register f c ≡ Reference o → virtual_callee p (object_at s o).class name b ≡ Some m → decide p s f (InvokeVirtual name b c) ≡ Call m c
   virtual_effect name b c o m receiver found = rw (receiver, found)
 
 -- ---- exceptions
@@ -125,7 +123,7 @@ pub record Leaving (p : Program) (s : State) : Type 0 where
   pub rest : List Frame
   pub object : ℕ
   pub at : At p s (raised object) frame rest
-  pub handling : handling_at p s frame object ≡ Uncaught
+  pub handling : handling_at p s frame object ≡ None
 
 module _ (p : Program) (s : State) where
   pub leaving_step : (c : Leaving p s) → step p s ≡ dropped s c.object c.rest
@@ -133,9 +131,9 @@ module _ (p : Program) (s : State) where
       step_raised p s c.frame c.rest c.object c.at
       ∙ ap (unwound p s c.frame c.rest c.object) c.handling
 
-  shorter_unwound : (f : Frame) (rest : List Frame) (o : ℕ) (h : Handling) → length (unwound p s f rest o h).frames < length (f ∷ rest) → h ≡ Uncaught
-  shorter_unwound f rest o (Caught h) l = absurd (lt_irrefl _ l)
-  shorter_unwound f rest o Uncaught l = refl
+  shorter_unwound : (f : Frame) (rest : List Frame) (o : ℕ) (h : Option ℕ) → length (unwound p s f rest o h).frames < length (f ∷ rest) → h ≡ None
+  shorter_unwound f rest o (Some h) l = absurd (lt_irrefl _ l)
+  shorter_unwound f rest o None l = refl
 
   shorter_by : (t : State) (o : ℕ) → Stepped p s t → s.status ≡ raised o → length t.frames < length s.frames → Leaving p s
   shorter_by t o (runs f rest h e) status l = let d : ◌≡◌ {A = ℕ} 0 1 = cc in absurd (omega arith)
@@ -189,6 +187,6 @@ module _ (p : Program) (n : ℕ) where
   pub not_raised : ((o : ℕ) → (run p n).status ≡ raised o → ⊥) → leavings p (suc n) ≡ leavings p n
   not_raised h = no_leaving (λ c. h c.object c.at.status)
 
-  pub caught_stays : (o h : ℕ) (f : Frame) (rest : List Frame) → At p (run p n) (raised o) f rest → handling_at p (run p n) f o ≡ Caught h → leavings p (suc n) ≡ leavings p n
+  pub caught_stays : (o h : ℕ) (f : Frame) (rest : List Frame) → At p (run p n) (raised o) f rest → handling_at p (run p n) f o ≡ Some h → leavings p (suc n) ≡ leavings p n
   caught_stays o h f rest at caught =
       no_leaving (λ c. let d : ◌≡◌ {A = ℕ} 0 1 = cc in omega arith)

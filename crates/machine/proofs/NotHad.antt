@@ -6,13 +6,12 @@ use Prim.Native.Nat.{ℕ, zero, suc}
 use lib.Dec.{ltb}
 use lib.ListN.{get_or}
 use lib.Seq.{get_or-set_other}
+use Rattle.std.specs.Prelude.{Option, Some, None}
 use Rattle.instruction.specs.Word.{pick}
 use Rattle.instruction.proofs.Flags.{pick_cases}
 use Rattle.program.specs.Lists.{Every}
 use Rattle.program.specs.Program.{Program, field_count, code_length, instruction_at, word_at}
 use Rattle.program.proofs.Every.{every_append}
-use Rattle.search.specs.declared.Handling.{Handling}
-use Rattle.search.specs.declared.Handling.TheVariants.{Caught, Uncaught}
 use Rattle.search.specs.Search.{has_field, handler_for}
 use Rattle.machine.specs.declared.Value.{Value}
 use Rattle.machine.specs.declared.Effect.{Effect}
@@ -45,9 +44,9 @@ module _ (p : Program) (s : State) (h : Every (NotHad p) s.objects) where
   dropped_kept o [] = h
   dropped_kept o (g ∷ rest) = h
 
-  unwound_kept : (f : Frame) (rest : List Frame) (o : ℕ) (r : Handling) → Kept (unwound p s f rest o r)
-  unwound_kept f rest o (Caught i) = h
-  unwound_kept f rest o Uncaught = dropped_kept o rest
+  unwound_kept : (f : Frame) (rest : List Frame) (o : ℕ) (r : Option ℕ) → Kept (unwound p s f rest o r)
+  unwound_kept f rest o (Some i) = h
+  unwound_kept f rest o None = dropped_kept o rest
 
   more_kept : (c : ℕ) → Every (NotHad p) (s.objects ++ fresh p c ∷ [])
   more_kept c =

@@ -1,5 +1,6 @@
 -- Signed 32-bit numbers: of values, frames, objects and states, and of the effect of an instruction at a frame that has only such.
 -- Assumes nothing.
+use Rattle.std.specs.Prelude.{Option, Some, None}
 use mathlib.Core.Path.{◌≡◌}
 use mathlib.Core.Bool.{Bool, true, false}
 use Prim.Native.Nat.{ℕ, suc, ◌+◌, ◌*◌, ◌/◌, ◌%◌, ◌≤◌}
@@ -16,14 +17,10 @@ use Rattle.instruction.specs.declared.Unary.{Unary}
 use Rattle.instruction.specs.declared.Instruction.{Instruction}
 use Rattle.instruction.specs.Word.{pick, signed_of, fields_of, instruction_of}
 use Rattle.instruction.proofs.Flags.{pick_cases}
-use Rattle.arithmetic.specs.declared.Computed.{Computed}
-use Rattle.arithmetic.specs.declared.Computed.TheVariants.{Number as Result, ByZero}
 use Rattle.arithmetic.specs.Arithmetic.{is_zero, computed, unary_value, in_order}
 use Rattle.arithmetic.proofs.Fits.{Fitting, computed_fits, unary_fits}
 use Rattle.program.specs.Lists.{Every}
 use Rattle.program.specs.Program.{Program}
-use Rattle.search.specs.declared.Callee.{Callee}
-use Rattle.search.specs.declared.Callee.TheVariants.{Found, Missing}
 use Rattle.search.specs.Search.{below, has_field, virtual_callee}
 use Rattle.machine.specs.declared.Value.{Value}
 use Rattle.machine.specs.declared.Value.TheVariants.{Number, Reference}
@@ -100,9 +97,9 @@ module _ (p : Program) (s : State) where
   not_object_lem : (z : ℤ) → Writes p s (not_object z)
   not_object_lem z = either (is_zero z) _ _ tt tt
 
-  computed_signed : (a : ℕ) (r : Computed) → Fitting r → Writes p s (computed_into a r)
-  computed_signed a (Result z) f = in_range z f
-  computed_signed a ByZero f = tt
+  computed_signed : (a : ℕ) (r : Option ℤ) → Fitting r → Writes p s (computed_into a r)
+  computed_signed a (Some z) f = in_range z f
+  computed_signed a None f = tt
 
   binop_signed : (a : ℕ) (o : Operation) (v w : Value) → Signed v → Signed w → Writes p s (binop a o v w)
   binop_signed a o (Number x) (Number y) h k = computed_signed a (computed o x y) (computed_fits o x y (fits x h) (fits y k))
@@ -128,9 +125,9 @@ module _ (p : Program) (s : State) where
   branch_signed c (Reference q) (Number y) d = compared_signed c false d
   branch_signed c (Reference q) (Reference r) d = compared_signed c (eqb q r) d
 
-  call_signed : (r : Callee) (c : ℕ) → Writes p s (call_of r c)
-  call_signed (Found m) c = tt
-  call_signed Missing c = tt
+  call_signed : (r : Option ℕ) (c : ℕ) → Writes p s (call_of r c)
+  call_signed (Some m) c = tt
+  call_signed None c = tt
 
   put_signed : (x : ℕ) (u v : Value) → Signed u → Writes p s (put_field p (class_of s v) x u v)
   put_signed x u (Number z) h = not_object_lem z

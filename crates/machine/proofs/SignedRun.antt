@@ -2,13 +2,12 @@
 use mathlib.Core.List.{List, [], ◌∷◌, ◌++◌}
 use Prim.Native.Nat.{ℕ, zero, suc, ◌-◌}
 use lib.Dec.{ltb}
+use Rattle.std.specs.Prelude.{Option, Some, None}
 use Rattle.instruction.specs.Word.{pick}
 use Rattle.instruction.proofs.Flags.{pick_cases}
 use Rattle.program.specs.Lists.{Every}
 use Rattle.program.specs.Program.{Program, field_count, registers, arguments, code_length, instruction_at, word_at}
 use Rattle.program.proofs.Every.{every_append, every_tab}
-use Rattle.search.specs.declared.Handling.{Handling}
-use Rattle.search.specs.declared.Handling.TheVariants.{Caught, Uncaught}
 use Rattle.search.specs.Search.{handler_for}
 use Rattle.machine.specs.declared.Value.{Value}
 use Rattle.machine.specs.declared.Value.TheVariants.{Reference}
@@ -42,9 +41,9 @@ module _ (p : Program) (s : State) (signed : SignedState s) where
   dropped_signed o (g ∷ rest) h = with_frames_lem (g ∷ rest) (raised o) h
 
   module _ (f : Frame) (rest : List Frame) (h : Every SignedFrame (f ∷ rest)) where
-    unwound_signed : (o : ℕ) (r : Handling) → SignedState (unwound p s f rest o r)
-    unwound_signed o (Caught i) = with_frames_lem _ running (resumed_signed f _ (Reference o) h.0 tt, h.1)
-    unwound_signed o Uncaught = dropped_signed o rest h.1
+    unwound_signed : (o : ℕ) (r : Option ℕ) → SignedState (unwound p s f rest o r)
+    unwound_signed o (Some i) = with_frames_lem _ running (resumed_signed f _ (Reference o) h.0 tt, h.1)
+    unwound_signed o None = dropped_signed o rest h.1
 
     on : (to : ℕ) → Every SignedFrame (moved f to ∷ rest)
     on to = (record { registers = h.0.registers; result = h.0.result }, h.1)

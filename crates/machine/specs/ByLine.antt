@@ -1,7 +1,6 @@
 -- The run of document 01, which takes handlers by their lines in the text and knows no numbers. That it is the run, proofs/ByLine
 -- says. Definitions only.
-use Rattle.std.specs.Prelude.{List, [], ◌∷◌, ℕ, zero, suc, ltb}
-use Rattle.std.proofs.Math.Option.{Option, none, some, map}
+use Rattle.std.specs.Prelude.{List, [], ◌∷◌, ℕ, zero, suc, ltb, Option, Some, None, option_map}
 use Rattle.instruction.specs.Word.{pick}
 use Rattle.program.specs.Program.{Program, code_length}
 use Rattle.search.specs.Lines.{line_target, first_line}
@@ -12,13 +11,13 @@ use Rattle.machine.specs.Run.{resumed, with_frames, dropped, step_by}
 -- "takes the top frame's handler at its address (the object becomes the result) or drops the frame", by the address that the handler
 -- goes to
 abbrev pub unwound_to : State → Frame → List Frame → ℕ → Option ℕ → State
-unwound_to s f rest o (some to) = with_frames s (resumed f to (Reference o) ∷ rest)
-unwound_to s f rest o none = dropped s o rest
+unwound_to s f rest o (Some to) = with_frames s (resumed f to (Reference o) ∷ rest)
+unwound_to s f rest o None = dropped s o rest
 
 -- "The first that fits is taken"
 abbrev pub line_taken : Program → State → Frame → ℕ → Option ℕ
 line_taken p s f o =
-    map (line_target p f.method) (first_line p f.method f.address (object_at s o).class)
+    option_map (line_target p f.method) (first_line p f.method f.address (object_at s o).class)
 
 -- a step by status and top frame: one with an object pending goes by lines, any other as it does
 abbrev pub line_step_by : Program → State → Status → List Frame → State

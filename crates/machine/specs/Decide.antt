@@ -1,6 +1,6 @@
 -- What an instruction does at a frame: its operands are tested, and the effect is told. One clause an instruction. Definitions
 -- only.
-use Rattle.std.specs.Prelude.{Bool, false, ℕ, eqb, ℤ, pos}
+use Rattle.std.specs.Prelude.{Bool, false, ℕ, eqb, ℤ, pos, Option, Some, None}
 use Rattle.instruction.specs.declared.Condition.{Condition}
 use Rattle.instruction.specs.declared.Condition.TheVariants.{Eq, Ne, Lt, Ge, Gt, Le}
 use Rattle.instruction.specs.declared.Operation.{Operation}
@@ -8,12 +8,8 @@ use Rattle.instruction.specs.declared.Unary.{Unary}
 use Rattle.instruction.specs.declared.Instruction.{Instruction}
 use Rattle.instruction.specs.declared.Instruction.TheVariants.{Nop, Move, Const, Goto, If, IfZero, Binop, Unop, NewInstance, Iget, Iput, Sget, Sput, InvokeVirtual, InvokeStatic, MoveResult, MoveException, Return, ReturnVoid, Throw, InstanceOf, CheckCast}
 use Rattle.instruction.specs.Word.{pick}
-use Rattle.arithmetic.specs.declared.Computed.{Computed}
-use Rattle.arithmetic.specs.declared.Computed.TheVariants.{Number as Result, ByZero}
 use Rattle.arithmetic.specs.Arithmetic.{is_zero, computed, unary_value, in_order}
 use Rattle.program.specs.Program.{Program, throwable_class, null_class, arithmetic_class, cast_class}
-use Rattle.search.specs.declared.Callee.{Callee}
-use Rattle.search.specs.declared.Callee.TheVariants.{Found, Missing}
 use Rattle.search.specs.Search.{below, has_field, virtual_callee}
 use Rattle.machine.specs.declared.Value.{Value}
 use Rattle.machine.specs.declared.Value.TheVariants.{Number, Reference}
@@ -28,9 +24,9 @@ abbrev pub not_object : ℤ → Effect
 not_object z = pick (is_zero z) (RaiseNew null_class) (Fail NumberAsObject)
 
 -- binop a: "3 object as number", "binop tests both for 3 before 4"; where fault 4 was, division by zero, class 3 is raised
-abbrev pub computed_into : ℕ → Computed → Effect
-computed_into a (Result z) = Write a (Number z)
-computed_into a ByZero = RaiseNew arithmetic_class
+abbrev pub computed_into : ℕ → Option ℤ → Effect
+computed_into a (Some z) = Write a (Number z)
+computed_into a None = RaiseNew arithmetic_class
 
 abbrev pub binop : ℕ → Operation → Value → Value → Effect
 binop a o (Number x) (Number y) = computed_into a (computed o x y)
@@ -69,9 +65,9 @@ put_field p k x u (Number z) = not_object z
 put_field p k x u (Reference o) = pick (has_field p k x) (Store o x u) (Fail FieldNotHad)
 
 -- a call, arguments in registers from c on: "6 no method"
-abbrev pub call_of : Callee → ℕ → Effect
-call_of (Found m) c = Call m c
-call_of Missing c = Fail NoMethod
+abbrev pub call_of : Option ℕ → ℕ → Effect
+call_of (Some m) c = Call m c
+call_of None c = Fail NoMethod
 
 -- invoke-virtual name n, b arguments from register c on; the receiver v is an object of class k
 abbrev pub virtual_call : Program → ℕ → ℕ → ℕ → ℕ → Value → Effect

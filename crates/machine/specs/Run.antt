@@ -1,10 +1,8 @@
 -- The machine's step, and the run: the state after n steps, fed the program alone. Definitions only.
-use Rattle.std.specs.Prelude.{List, [], ◌∷◌, ◌++◌, ℕ, zero, suc, ◌+◌, ◌-◌, ltb, length, set, replicate}
+use Rattle.std.specs.Prelude.{List, [], ◌∷◌, ◌++◌, ℕ, zero, suc, ◌+◌, ◌-◌, ltb, length, set, replicate, Option, Some, None}
 use Rattle.instruction.specs.Word.{pick}
 use Rattle.program.specs.Lists.{tab}
 use Rattle.program.specs.Program.{Program, field_count, registers, arguments, code_length, instruction_at, handler_target}
-use Rattle.search.specs.declared.Handling.{Handling}
-use Rattle.search.specs.declared.Handling.TheVariants.{Caught, Uncaught}
 use Rattle.search.specs.Search.{handler_for}
 use Rattle.machine.specs.declared.Value.{Value}
 use Rattle.machine.specs.declared.Value.TheVariants.{Reference}
@@ -105,9 +103,9 @@ dropped s o [] = record { frames = []; objects = s.objects; statics = s.statics;
 dropped s o (g ∷ rest) = record { frames = g ∷ rest; objects = s.objects; statics = s.statics; status = raised o }
 
 -- "A step with one pending takes the top frame's handler at its address (the object becomes the result) or drops the frame"
-abbrev pub unwound : Program → State → Frame → List Frame → ℕ → Handling → State
-unwound p s f rest o (Caught h) = with_frames s (resumed f (handler_target p f.method h) (Reference o) ∷ rest)
-unwound p s f rest o Uncaught = dropped s o rest
+abbrev pub unwound : Program → State → Frame → List Frame → ℕ → Option ℕ → State
+unwound p s f rest o (Some h) = with_frames s (resumed f (handler_target p f.method h) (Reference o) ∷ rest)
+unwound p s f rest o None = dropped s o rest
 
 -- a step by status and top frame. "after an end the state stays as the end left it"; at an address outside its method the
 -- state stays too

@@ -1,5 +1,6 @@
 -- Every row of document 01's marked cases holds: one test that is computed over the whole table, and the law that turns it into each
 -- row. Assumes nothing.
+use Rattle.std.specs.Prelude.{Option, Some, None}
 use mathlib.Core.Path.{◌≡◌, refl, ap, subst⁻¹}
 use mathlib.Core.Bool.{Bool, true, false, ◌&&◌}
 use mathlib.Core.List.{List, [], ◌∷◌, Memᴰ}
@@ -12,8 +13,6 @@ use Rattle.page.specs.Digits.{digit_of as printed_digit}
 use Rattle.text.proofs.Cases.{never, both_true}
 use Rattle.instruction.specs.Word.{instruction_of, fields_of}
 use Rattle.mask.specs.Mask.{has, subset, has_number}
-use Rattle.arithmetic.specs.declared.Computed.{Computed}
-use Rattle.arithmetic.specs.declared.Computed.TheVariants.{Number, ByZero}
 use Rattle.arithmetic.specs.Arithmetic.{wrapped, computed, unary_value, same_number}
 use Rattle.search.specs.Search.{below_in, has_field}
 use Rattle.frame.specs.Frame.{kind_of}
@@ -38,9 +37,9 @@ use Rattle.response.specs.Claimed.{checking_of, said}
 use Rattle.marked.specs.Marked.{Row, binary, unary, prints, stops, stepped, open_frames, bottom_address, Holds, marked}
 
 -- ---- the test of a row, and of a table
-abbrev is_number : Computed → ℤ → Bool
-is_number (Number x) z = same_number x z
-is_number ByZero z = false
+abbrev is_number : Option ℤ → ℤ → Bool
+is_number (Some x) z = same_number x z
+is_number None z = false
 
 abbrev same_bytes : List ℕ → List ℕ → Bool
 same_bytes [] [] = true
@@ -68,9 +67,9 @@ same_number_lem (pos a) (negsuc b) e = never (cc)
 same_number_lem (negsuc a) (pos b) e = never (cc)
 same_number_lem (negsuc a) (negsuc b) e = ap negsuc (eqb-true a b e)
 
-is_number_lem : (x : Computed) (z : ℤ) → is_number x z ≡ true → x ≡ Number z
-is_number_lem (Number x) z e = ap Number (same_number_lem x z e)
-is_number_lem ByZero z e = never (cc)
+is_number_lem : (x : Option ℤ) (z : ℤ) → is_number x z ≡ true → x ≡ Some z
+is_number_lem (Some x) z e = ap Some (same_number_lem x z e)
+is_number_lem None z e = never (cc)
 
 same_bytes_lem : (xs ys : List ℕ) → same_bytes xs ys ≡ true → xs ≡ ys
 same_bytes_lem [] [] e = refl

@@ -1,12 +1,11 @@
 -- Document 01's marked cases, the starred ones: one table of each case and what it should give, and what it means that a row holds.
 -- Definitions only.
-use Rattle.std.specs.Prelude.{◌≡◌, List, [], ◌∷◌, ℕ, ℤ, pos, neg_ℤ, get_or, replicate}
+use Rattle.std.specs.Prelude.{◌≡◌, List, [], ◌∷◌, ℕ, ℤ, pos, neg_ℤ, get_or, replicate, Some}
 use Prim.Native.String.{String, ◌++◌}
 use Rattle.instruction.specs.declared.Operation.{Operation}
 use Rattle.instruction.specs.declared.Operation.TheVariants.{Add, Div, Rem, Shl, Shr, Ushr}
 use Rattle.instruction.specs.declared.Unary.{Unary}
 use Rattle.instruction.specs.declared.Unary.TheVariants.{Neg}
-use Rattle.arithmetic.specs.declared.Computed.TheVariants.{Number}
 use Rattle.arithmetic.specs.Arithmetic.{computed, unary_value}
 use Rattle.reader.specs.Sample.{bytes_of, sample}
 use Rattle.cells.specs.declared.Frame.{Frame}
@@ -43,7 +42,7 @@ abbrev pub bottom_address : Stepping → ℕ
 bottom_address x = (get_or (frames_left x lent_frames) 0 zero_frame).address
 
 abbrev pub Holds : Row → Type 0
-Holds (binary operation left right due) = computed operation left right ≡ Number due
+Holds (binary operation left right due) = computed operation left right ≡ Some due
 Holds (unary operation operand due) = unary_value operation operand ≡ due
 Holds (prints panel claim due) = said (bytes_of panel) (bytes_of claim) ≡ bytes_of due
 Holds (stops panel n number frames address) =

@@ -4,11 +4,11 @@ use mathlib.Core.Path.{◌≡◌, refl, sym, ◌∙◌}
 use mathlib.Core.Logic.{◌⊎◌, inl, inr}
 use mathlib.Core.Bool.{Bool, true, false}
 use mathlib.Core.List.{◌++◌}
-use mathlib.Core.Option.{Option, none, some}
 use Prim.Native.Nat.{ℕ, zero, suc, ◌≤◌, ◌<◌}
 use native.Mathlib.Nat.{not-suc-le-zero, le_of_suc-le-suc}
 use native.Mathlib.Omega.{arith}
 use borrow.Author.Tests.{eq-eqb}
+use Rattle.std.specs.Prelude.{Option, Some, None}
 use Rattle.instruction.specs.Test.{Test, passes, Holds}
 use Rattle.instruction.specs.Word.{pick}
 use Rattle.instruction.proofs.Laws.{holds}
@@ -123,10 +123,10 @@ mark_numbers p =
         (every_append Number (marks_in p Code m) (marks_in p Handler m) (kind Code m) (kind Handler m))
 
 -- a search that finds none: its first number does not pass, and the search from the next finds none
-none_later : (t : Bool) (r : Option ℕ) → some? (pick t (some zero) (one_more r)) ≡ false → (t ≡ false) × (some? r ≡ false)
+none_later : (t : Bool) (r : Option ℕ) → some? (pick t (Some zero) (one_more r)) ≡ false → (t ≡ false) × (some? r ≡ false)
 none_later true r e = absurd (true_false e)
-none_later false none e = (refl, refl)
-none_later false (some k) e = (refl, e)
+none_later false None e = (refl, refl)
+none_later false (Some k) e = (refl, e)
 
 none_passes : (n : ℕ) (test : ℕ → Bool) → some? (first n test) ≡ false → (k : ℕ) → k < n → test k ≡ false
 none_passes zero test e k l = absurd (not-suc-le-zero l)

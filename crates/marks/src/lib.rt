@@ -55,8 +55,7 @@ fn scan(t: &[u64; 768], k: Kind, m: usize, line: usize) -> Stop
     ensures value { result ≡ first_mark (marks_in (program_in t.now) k m) line }
 {
     let n = lines_in(t, k, m);
-    let mut i: usize = 0;
-    while i < n {
+    for i in 0..n {
         let mark = mark_at(t, k, m, i);
         if mark != 0 {
             return Stop {
@@ -64,7 +63,6 @@ fn scan(t: &[u64; 768], k: Kind, m: usize, line: usize) -> Stop
                 line: line + i,
             };
         }
-        i += 1;
     }
     Stop {
         number: 0,
@@ -94,15 +92,13 @@ fn scan_methods(t: &[u64; 768], line: usize) -> Stop
     ensures value { result ≡ first_mark (joined (method_count (program_in t.now)) (method_marks (program_in t.now))) line }
 {
     let n = program::method_count(t);
-    let mut m: usize = 0;
     let mut at = line;
-    while m < n {
+    for m in 0..n {
         let s = scan_method(t, m, at);
         if s.number != 0 {
             return s;
         }
         at = s.line;
-        m += 1;
     }
     Stop {
         number: 0,

@@ -2,7 +2,7 @@
 use mathlib.Core.Path.{◌≡◌, refl}
 use mathlib.Core.Bool.{true, false}
 use Prim.Native.Nat.{ℕ, ◌-◌, ◌^◌}
-use Rattle.mask.specs.Mask.{has, subset, has_number}
+use Rattle.mask.specs.Mask.{has, is_empty, subset, has_number}
 
 -- ---- bits
 -- 4611686018427387904 is 2 ^ 62, zero's bit alone, and 9223372036854775808 is 2 ^ 63, that of other numbers alone
@@ -78,3 +78,13 @@ other_number_lem = refl
 no_number : has_number (record { bits = 2 ^ 62 - 1 }) ≡ false
 unfolding has_number has
 no_number = refl
+
+-- ---- no bits
+empty_0 : is_empty (record { bits = 0 }) ≡ true
+unfolding is_empty has
+empty_0 = refl
+
+-- the last bit alone
+not_empty_63 : is_empty (record { bits = 9223372036854775808 }) ≡ false
+unfolding is_empty has
+not_empty_63 = refl

@@ -1,20 +1,22 @@
--- Laws of masks: tests of all numbers below a bound, the bits of a mask, subsets by the bitwise and, and one bit more by the bitwise
--- or. Assumes nothing.
-use mathlib.Core.Path.{◌≡◌, refl, sym, ap, ◌∙◌}
+-- Laws of masks: tests of all numbers below a bound, the bits of a mask, and the masks that bitwise operations make of others. Assumes
+-- nothing.
+use mathlib.Core.Path.{◌≡◌, refl, sym}
 use mathlib.Core.Bool.{Bool, true, false, not, ◌&&◌, ◌||◌}
-use Prim.Native.Nat.{ℕ, zero, suc, ◌+◌, ◌*◌, ◌-◌, ◌/◌, ◌%◌, ◌^◌, ◌<◌, ◌≤◌, min, max}
-use native.Mathlib.Decide.{ℕ_discrete, dec_lt}
-use native.Mathlib.Nat.{div-eq_of_lt, one-mul, pow-suc}
+use Prim.Native.Nat.{ℕ, zero, suc, ◌*◌, ◌-◌, ◌/◌, ◌%◌, ◌^◌, ◌<◌, ◌≤◌, min, max}
 use native.Mathlib.Omega.{arith}
-use lib.Arith.{bin_ind}
-use lib.Bits.{bit_and, bit_or, and_step, or_step, and_shr, or_shr, and_zero_l, and_mask}
+use lib.Bits.{bit_and, bit_or}
 use lib.Dec.{eqb, ltb}
-use lib.Pow.{shr-shr, shl_exact, shl-shr, pow-add, pow-lt, pow_mono}
-use borrow.Author.Tests.{ltb-true, eqb-true, lt-ltb, le-ltb, eq-eqb, ne_eqb}
+use mathlib.Core.Logic.{◌⊎◌, inl, inr}
+use Rattle.std.specs.Int.{bit_at, w64}
+use Rattle.std.proofs.lemmas.Bool.{cases_eq}
+use Rattle.std.proofs.lemmas.Nat.Bits.{shr_and_one, bit_at_set_same, bit_at_set_other, bit_at-zero, bit_at_and, bit_at_or, bit_at-lt, bit_at_not, same_from_bits_below}
+use Rattle.std.proofs.lemmas.Bool.Decides.{nat_tests}
+use borrow.Author.Tests.{ltb-true, eqb-true, lt-ltb, le-ltb, eq-eqb}
+pub use Rattle.std.proofs.Math.Bool.{and-false as and_false}
 use Rattle.instruction.specs.Word.{pick}
 use Rattle.instruction.proofs.Flags.{both_true, or_right, if_use, if_true}
 use Rattle.mask.specs.declared.Mask.{Mask}
-use Rattle.mask.specs.Mask.{has, every, subset, has_number, zero_bit, other_bit}
+use Rattle.mask.specs.Mask.{has, every, is_empty, subset, has_number, zero_bit, other_bit}
 
 -- ---- tests
 -- two tests, each of which passes if the other does, are equal
@@ -22,10 +24,6 @@ pub same_test : (a b : Bool) → (a ≡ true → b ≡ true) → (b ≡ true →
 same_test true b f g = sym (f refl)
 same_test false true f g = g refl
 same_test false false f g = refl
-
-pub and_false : (a : Bool) → a && false ≡ false
-and_false true = refl
-and_false false = refl
 
 -- ---- a test of every number below a bound
 pub every_at : (n : ℕ) (test : ℕ → Bool) → every n test ≡ true → (k : ℕ) → k < n → test k ≡ true
@@ -68,7 +66,7 @@ bit_has m k l e = rw (lt-ltb k 64 l) (eq-eqb (m.bits / 2 ^ k % 2) 1 e)
 -- the lowest bit of the mask shifted
 pub shifted_has : (m : Mask) (k : ℕ) → k < 64 → eqb (bit_and (m.bits / 2 ^ k) 1) 1 ≡ has m k
 unfolding has
-shifted_has m k l = rw (and_mask (m.bits / 2 ^ k) 1, lt-ltb k 64 l)
+shifted_has m k l = rw (shr_and_one, lt-ltb k 64 l)
 
 pub past_has : (m : Mask) (k : ℕ) → 64 ≤ k → has m k ≡ false
 unfolding has
@@ -93,120 +91,102 @@ subset_all m other h =
 -- ---- bits of numbers
 -- bit k of a number
 abbrev pub bit : ℕ → ℕ → ℕ
-bit n k = n / 2 ^ k % 2
+bit n k = bit_at n k
 
--- every bit of a is in b
-abbrev Within : ℕ → ℕ → Type 0
-Within a b = (k : ℕ) → bit a k ≡ 1 → bit b k ≡ 1
+-- a test of one bit by the tests of two
+both : (t : Bool) (x y : ℕ) → x < 2 → y < 2 → t && eqb (min x y) 1 ≡ (t && eqb x 1) && (t && eqb y 1)
+both t x y l k = grind (arith, nat_tests)
 
-and_low : (x y : ℕ) → bit_and x y % 2 ≡ min (x % 2) (y % 2)
-and_low x y = omega (arith, and_step x y)
+either : (t : Bool) (x y : ℕ) → x < 2 → y < 2 → t && eqb (max x y) 1 ≡ (t && eqb x 1) || (t && eqb y 1)
+either t x y l k = grind (arith, nat_tests)
 
-pub bit_and_lem : (a b k : ℕ) → bit (bit_and a b) k ≡ min (bit a k) (bit b k)
-bit_and_lem a b k = rw and_shr (and_low _ _)
+only : (t : Bool) (x y : ℕ) → x < 2 → y < 2 → t && eqb (min x (1 - y)) 1 ≡ (t && eqb x 1) && not (t && eqb y 1)
+only t x y l k = grind (arith, nat_tests)
 
--- bit k of the half is bit k + 1
-pub bit_half : (a k : ℕ) → bit (a / 2) k ≡ bit a (1 + k)
-bit_half a k = ap (λ (n : ℕ). n % 2) (shr-shr a 1 k)
+-- ---- the bits of two masks
+module _ (m other : Mask) (k : ℕ) where
+  pub common_has : has (record { bits = bit_and m.bits other.bits }) k ≡ has m k && has other k
+  unfolding has
+  common_has = rw bit_at_and (both (ltb k 64) _ _ (bit_at-lt m.bits k) (bit_at-lt other.bits k))
 
-bit_zero : (a : ℕ) → bit a 0 ≡ a % 2
-bit_zero a = omega arith
+  pub join_has : has (record { bits = bit_or m.bits other.bits }) k ≡ has m k || has other k
+  unfolding has
+  join_has = rw bit_at_or (either (ltb k 64) _ _ (bit_at-lt m.bits k) (bit_at-lt other.bits k))
 
-low_min : (x y : ℕ) → x < 2 → (x ≡ 1 → y ≡ 1) → min x y ≡ x
-low_min zero y l f = omega arith
-low_min (suc zero) y l f = rw (f refl)
-low_min (suc (suc x)) y l f = absurd (omega arith)
-
-within_and : (a b : ℕ) → Within a b → bit_and a b ≡ a
-within_and =
-    bin_ind (λ (a : ℕ). (b : ℕ) → Within a b → bit_and a b ≡ a)
-    (λ b h. and_zero_l b)
-    (λ a ih b h.
-    let halves : bit_and (a / 2) (b / 2) ≡ a / 2 = ih (b / 2) (λ k e. bit_half b k ∙ h (1 + k) (sym (bit_half a k) ∙ e)) in
-    let low : a % 2 ≡ 1 → b % 2 ≡ 1 = λ e. sym (bit_zero b) ∙ h 0 (bit_zero a ∙ e) in
-    omega (arith, and_step a b, halves, low_min (a % 2) (b % 2) (omega arith) low))
-
-and_within : (a b : ℕ) → bit_and a b ≡ a → Within a b
-and_within a b e k one = omega (arith, bit_and_lem a b k, ap (λ (n : ℕ). bit n k) e)
-
--- a number of 64 bits has no bit past the last
-bit_less : (a k : ℕ) → a < 2 ^ 64 → bit a k ≡ 1 → k < 64
-bit_less a k l e = by (dec_lt k 64)
-  where
-    by : Dec (k < 64) → k < 64
-    by (yes less) = less
-    by (no n) =
-        let past : 2 ^ 64 ≤ 2 ^ k = pow_mono {i = 64} {j = k} (omega (arith, n)) in
-        let zeros : a / 2 ^ k ≡ 0 = div-eq_of_lt (omega arith) in
-        absurd (omega arith)
-
--- ---- a mask of 64 bits is a subset of another exactly where the bitwise and is the first
-pub and_subset : (m other : Mask) → m.bits < 2 ^ 64 → eqb (bit_and m.bits other.bits) m.bits ≡ subset m other
-and_subset m other l =
-    same_test (eqb (bit_and m.bits other.bits) m.bits) (subset m other)
-    (λ e. subset_all m other (λ k h. bit_has other k (has_less m k h) (and_within m.bits other.bits (eqb-true _ _ e) k (has_bit m k h))))
-    (λ e. eq-eqb _ _ (within_and m.bits other.bits (λ k b. has_bit other k (subset_at m other e k (bit_has m k (bit_less m.bits k l b) b)))))
+  pub without_has : other.bits < 2 ^ 64
+      → has (record { bits = bit_and m.bits (18446744073709551615 - other.bits) }) k ≡ has m k && not (has other k)
+  unfolding has
+  without_has l = by (ltb k 64) refl
+    where
+      by : (t : Bool) → ltb k 64 ≡ t
+          → t && eqb (bit_at (bit_and m.bits (18446744073709551615 - other.bits)) k) 1
+          ≡ (t && eqb (bit_at m.bits k) 1) && not (t && eqb (bit_at other.bits k) 1)
+      by false e = refl
+      by true e =
+          rw (bit_at_and, bit_at_not w64 other.bits k l (ltb-true k 64 e))
+          (only true _ _ (bit_at-lt m.bits k) (bit_at-lt other.bits k))
 
 -- ---- one bit more
-or_low : (x y : ℕ) → bit_or x y % 2 ≡ max (x % 2) (y % 2)
-or_low x y = omega (arith, or_step x y)
-
-pub bit_or_lem : (a b k : ℕ) → bit (bit_or a b) k ≡ max (bit a k) (bit b k)
-bit_or_lem a b k = rw or_shr (or_low _ _)
-
--- 1 shifted within 64 bits
-pub one_shifted : (b : ℕ) → b < 64 → (1 * 2 ^ b) % 2 ^ 64 ≡ 2 ^ b
-one_shifted b l = shl_exact 1 b 64 (omega arith) (omega arith) ∙ one-mul (2 ^ b)
-
-bit_own : (b : ℕ) → bit (2 ^ b) b ≡ 1
-bit_own b = ap (λ (n : ℕ). n % 2) (ap (λ (n : ℕ). n / 2 ^ b) (sym (one-mul (2 ^ b))) ∙ shl-shr 1 b)
-
--- 2 ^ (1 + d + k) has no bit k
-bit_below : (k d : ℕ) → bit (2 ^ (suc d + k)) k ≡ 0
-bit_below k d =
-    ap (λ (n : ℕ). n / 2 ^ k % 2) (pow-add 2 (suc d) k)
-    ∙ ap (λ (n : ℕ). n % 2) (shl-shr (2 ^ suc d) k)
-    ∙ ap (λ (n : ℕ). n % 2) (pow-suc 2 d)
-    ∙ omega arith
-
-bit_other : (b k : ℕ) → (k ≡ b → ⊥) → bit (2 ^ b) k ≡ 0
-bit_other b k ne = by (dec_lt k b)
-  where
-    by : Dec (k < b) → bit (2 ^ b) k ≡ 0
-    by (yes l) =
-        let e : suc (b - suc k) + k ≡ b = omega arith in
-        ap (λ (n : ℕ). bit (2 ^ n) k) (sym e) ∙ bit_below k (b - suc k)
-    by (no n) =
-        let l : b < k = omega (arith, ne, n) in
-        ap (λ (n : ℕ). n % 2) (div-eq_of_lt (pow-lt l))
-
-or_false : (a : Bool) → a ≡ a || false
-or_false true = refl
-or_false false = refl
-
--- masks with the same bit k
-same_bit : (m r : Mask) (k : ℕ) → bit r.bits k ≡ bit m.bits k → has r k ≡ has m k
+pub with_has : (m : Mask) (b k : ℕ) → b < 64
+    → has (record { bits = bit_or m.bits (1 * 2 ^ b % 18446744073709551616) }) k ≡ has m k || (eqb k b && ltb k 64)
 unfolding has
-same_bit m r k e = ap (λ (n : ℕ). ltb k 64 && eqb n 1) e
-
-pub with_has : (m r : Mask) (b : ℕ) → b < 64 → r.bits ≡ bit_or m.bits (2 ^ b) → (k : ℕ) → has r k ≡ has m k || (eqb k b && ltb k 64)
-with_has m r b l e k = by (ℕ_discrete k b)
+with_has m b k l = by (cases_eq k b)
   where
-    bits : bit r.bits k ≡ max (bit m.bits k) (bit (2 ^ b) k)
-    bits = ap (λ (n : ℕ). bit n k) e ∙ bit_or_lem m.bits (2 ^ b) k
+    by : (k ≡ b) ⊎ (k ≡ b → ⊥)
+        → ltb k 64 && eqb (bit_at (bit_or m.bits (1 * 2 ^ b % 18446744073709551616)) k) 1
+        ≡ (ltb k 64 && eqb (bit_at m.bits k) 1) || (eqb k b && ltb k 64)
+    by (inl same) =
+        let own = bit_at_set_same w64 m.bits b l in
+        grind (arith, nat_tests, own, same)
+    by (inr other) =
+        let kept = bit_at_set_other w64 m.bits b l k other in
+        grind (arith, nat_tests, kept)
 
-    by : Dec (k ≡ b) → has r k ≡ has m k || (eqb k b && ltb k 64)
-    by (yes same) =
-        let own : bit (2 ^ b) k ≡ 1 = ap (λ (n : ℕ). bit (2 ^ b) n) same ∙ bit_own b in
-        bit_has r k (omega arith) (omega (arith, bits, own))
-        ∙ sym (or_right (has m k) (eqb k b && ltb k 64) (rw (eq-eqb k b same) (lt-ltb k 64 (omega arith))))
-    by (no ne) =
-        same_bit m r k (omega (arith, bits, bit_other b k ne))
-        ∙ rw (ne_eqb k b ne) (or_false (has m k))
-
-pub with_past : (m : Mask) (b : ℕ) → 64 ≤ b → (k : ℕ) → has m k ≡ has m k || (eqb k b && ltb k 64)
-with_past m b l k = by (ℕ_discrete k b)
+-- ---- no bit
+pub empty_bits : (m : Mask) → m.bits < 2 ^ 64 → eqb m.bits 0 ≡ is_empty m
+unfolding is_empty has
+empty_bits m l =
+    same_test (eqb m.bits 0) (is_empty m)
+    (λ e. every_all 64 (λ k. not (has m k)) (λ k less. rw (eqb-true m.bits 0 e, bit_at-zero k) (rw (and_false (ltb k 64)) refl)))
+    (λ e. eq-eqb m.bits 0 (same_from_bits_below 64 m.bits 0 l (omega arith) (λ k less. none k less (every_at 64 (λ k. not (has m k)) e k less))))
   where
-    by : Dec (k ≡ b) → has m k ≡ has m k || (eqb k b && ltb k 64)
-    by (yes same) = rw (eq-eqb k b same, le-ltb k 64 (omega arith)) (or_false (has m k))
-    by (no ne) = rw (ne_eqb k b ne) (or_false (has m k))
+    none : (k : ℕ) → k < 64 → not (has m k) ≡ true → bit_at m.bits k ≡ bit_at 0 k
+    none k less e =
+        let small = bit_at-lt m.bits k in
+        let zeros = bit_at-zero k in
+        grind (arith, nat_tests, small, zeros, e)
+
+pub empty_none : (m : Mask) → is_empty m ≡ true → (k : ℕ) → has m k ≡ false
+unfolding is_empty
+empty_none m e k = by (has m k) refl
+  where
+    by : (t : Bool) → has m k ≡ t → t ≡ false
+    by false h = refl
+    by true h =
+        let f = every_at 64 (λ i. not (has m i)) e k (has_less m k h) in
+        cc (f, h)
+
+pub empty_all : (m : Mask) → ((k : ℕ) → has m k ≡ false) → is_empty m ≡ true
+unfolding is_empty
+empty_all m h = every_all 64 (λ k. not (has m k)) (λ k less. rw (h k) refl)
+
+-- a mask is in another where the bits that are not in the other are none
+pub without_empty : (m other r : Mask) → ((k : ℕ) → has r k ≡ has m k && not (has other k)) → is_empty r ≡ subset m other
+unfolding is_empty subset
+without_empty m other r h =
+    every_same 64 (λ k. not (has r k)) (λ k. not (has m k) || has other k) (λ k less. rw (h k) (turned (has m k) (has other k)))
+  where
+    turned : (a b : Bool) → not (a && not b) ≡ not a || b
+    turned true true = refl
+    turned true false = refl
+    turned false b = refl
+
+-- a mask is empty where it is in one with no bit
+pub empty_subset : (m none : Mask) → ((k : ℕ) → has none k ≡ false) → is_empty m ≡ subset m none
+unfolding is_empty subset
+empty_subset m none h =
+    every_same 64 (λ k. not (has m k)) (λ k. not (has m k) || has none k) (λ k less. rw (h k) (end (not (has m k))))
+  where
+    end : (a : Bool) → a ≡ a || false
+    end true = refl
+    end false = refl

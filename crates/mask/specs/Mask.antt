@@ -19,6 +19,10 @@ abbrev pub every : ℕ → (ℕ → Bool) → Bool
 every zero test = true
 every (suc n) test = test zero && every n (λ k. test (suc k))
 
+-- no bit is in the mask
+unfoldable pub is_empty : Mask → Bool
+is_empty m = every 64 (λ k. not (has m k))
+
 -- every bit of one mask is in the other
 unfoldable pub subset : Mask → Mask → Bool
 subset m other = every 64 (λ k. not (has m k) || has other k)

@@ -21,7 +21,7 @@ fn word_of(v: Value) -> u64
     ensures reads { value_in (value_word v) ≡ v }
 {
     match v {
-        Value::Number(z) => instruction::bits(z) as u64,
+        Value::Number(z) => z.cast_unsigned() as u64,
         Value::Reference(o) => 4294967296 + o as u64,
     }
 }
@@ -30,12 +30,14 @@ fn word_of(v: Value) -> u64
 pub fn word_at(ws: &[u64], i: usize) -> usize
     ensures value { result ≡ get_or ws.now i 0 }
 {
-    if i < ws.len() { ws[i] as usize } else { 0 }
+    ws.get(i).copied().unwrap_or(0) as usize
 }
 
+// A word of memory written; nothing past its end.
 pub fn put_word(ws: &mut [u64], i: usize, w: u64)
     ensures memory { ws.new ≡ set ws.old i w }
 {
+    // Stays: the contract of `get_mut` says nothing of the words after a write through it.
     if i < ws.len() {
         ws[i] = w;
     }

@@ -28,31 +28,32 @@ const OPCODES: [u16; 256] = [
     0x000, 0x000, 0x000, 0x000, 0x000, 0x000, 0x000, 0x000, 0x000,
 ];
 
-// The table, for a caller to lend.
-pub fn table() -> [u16; 256]
-    ensures entries { Entries result }
-{
-    OPCODES
+// The table in memory, to be lent: each of its entries says what its opcode has.
+#[derive(Drop)]
+pub struct Table {
+    entries: [u16; 256],
+    ghost right: { Entries entries },
 }
 
-// The length of an opcode in units, by a table that is lent.
-pub fn length_in(table: &[u16; 256], op: u8) -> u8
-    ensures value { Entries table.now → result ≡ length_of op }
-    ensures most { result ≤ 15 }
-{
-    (table[op as usize] % 16) as u8
-}
+impl Table {
+    // The table of all opcodes.
+    pub fn new() -> Self {
+        Self { entries: OPCODES }
+    }
 
-// The length of an opcode in units, 0 where it is unused.
-pub fn length(op: u8) -> u8
-    ensures value { result ≡ length_of op }
-{
-    (OPCODES[op as usize] % 16) as u8
-}
+    // The length of an opcode in units, 0 where it is unused.
+    pub fn length(&self, op: u8) -> u8
+        ensures value { result ≡ length_of op }
+        ensures most { result ≤ 15 }
+    {
+        (self.entries[op as usize] % 16) as u8
+    }
 
-// The number of an opcode's generalized instruction, 0 where it is unused.
-pub fn group(op: u8) -> u8
-    ensures value { result ≡ group_number (group_of op) }
-{
-    (OPCODES[op as usize] / 16) as u8
+    // The number of an opcode's generalized instruction, 0 where it is unused.
+    // Stays: an enum of 38 variants would need 38 more arms that say `group_number` again, and nothing reads its variants.
+    pub fn group(&self, op: u8) -> u8
+        ensures value { result ≡ group_number (group_of op) }
+    {
+        (self.entries[op as usize] / 16) as u8
+    }
 }

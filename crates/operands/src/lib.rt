@@ -1,7 +1,7 @@
 // What an instruction names, and whether control goes on past it.
 #![tactic(auto)]
 
-ghost use Rattle.std.specs.Prelude.{◌≡◌, not, ◌&&◌, ◌||◌, ◌+◌, ltb, leb};
+ghost use Rattle.std.specs.Prelude.{◌≡◌, ◌+◌, ltb, leb};
 ghost use Rattle.instruction.specs.Test.{passes};
 ghost use Rattle.instruction.specs.Word.{falls_through};
 ghost use Rattle.operands.specs.Names.{named};
@@ -23,109 +23,112 @@ pub struct Limits {
 pub fn falls_through(i: Instruction) -> bool
     ensures value { result ≡ falls_through i }
 {
-    match i {
-        Instruction::Goto { target } => false,
-        Instruction::Return { from } => false,
-        Instruction::ReturnVoid => false,
-        Instruction::Throw { from } => false,
-        _ => true,
+    !matches!(
+        i,
+        Instruction::Goto { .. }
+            | Instruction::Return { .. }
+            | Instruction::ReturnVoid
+            | Instruction::Throw { .. }
+    )
+}
+
+impl Limits {
+    // Whether the method has a register.
+    fn has_register(self, r: u8) -> bool
+        ensures value { result ≡ ltb r self.registers }
+    {
+        u64::from(r) < self.registers
     }
-}
 
-// Whether x and y hold.
-pub fn both(x: bool, y: bool) -> bool
-    ensures value { result ≡ x && y }
-{
-    if x { y } else { false }
-}
+    // Whether the method has an address.
+    fn has_address(self, pc: u32) -> bool
+        ensures value { result ≡ ltb pc self.length }
+    {
+        u64::from(pc) < self.length
+    }
 
-// Whether y holds where x does.
-pub fn implies(x: bool, y: bool) -> bool
-    ensures value { result ≡ not x || y }
-{
-    if x { y } else { true }
-}
+    fn has_class(self, c: u8) -> bool
+        ensures value { result ≡ ltb c self.classes }
+    {
+        u64::from(c) < self.classes
+    }
 
-// Whether a is less than m, and b than n.
-fn two(a: u8, m: u64, b: u8, n: u64) -> bool
-    ensures value { result ≡ ltb a m && ltb b n }
-{
-    both((a as u64) < m, (b as u64) < n)
-}
+    fn has_field(self, f: u8) -> bool
+        ensures value { result ≡ ltb f self.fields }
+    {
+        u64::from(f) < self.fields
+    }
 
-// Whether a is less than k, b than m, and c than n.
-fn three(a: u8, k: u64, b: u8, m: u64, c: u8, n: u64) -> bool
-    ensures value { result ≡ ltb a k && (ltb b m && ltb c n) }
-{
-    both((a as u64) < k, two(b, m, c, n))
-}
+    fn has_static(self, s: u8) -> bool
+        ensures value { result ≡ ltb s self.statics }
+    {
+        u64::from(s) < self.statics
+    }
 
-// Whether a call's arguments stand in registers.
-fn arguments_fit(first: u8, count: u8, n: u64) -> bool
-    ensures value { result ≡ leb (first + count) n }
-{
-    (first as u64) + (count as u64) <= n
+    // Whether a call's arguments stand in registers.
+    fn has_arguments(self, first: u8, count: u8) -> bool
+        ensures value { result ≡ leb (first + count) self.registers }
+    {
+        u64::from(first) + u64::from(count) <= self.registers
+    }
 }
 
 // Whether all that an instruction names exists.
 pub fn names_fit(l: Limits, i: Instruction) -> bool
     ensures value { result ≡ passes (named l i) }
 {
-    let n = l.registers;
     match i {
-        Instruction::Nop => true,
-        Instruction::Move { to, from } => two(to, n, from, n),
-        Instruction::Const { to, value } => (to as u64) < n,
-        Instruction::Goto { target } => (target as u64) < l.length,
+        Instruction::Nop | Instruction::ReturnVoid => true,
+        Instruction::Const { to: r, .. }
+        | Instruction::MoveResult { to: r }
+        | Instruction::MoveException { to: r }
+        | Instruction::Return { from: r }
+        | Instruction::Throw { from: r } => l.has_register(r),
+        Instruction::Move { to, from } | Instruction::Unop { to, from, .. } => {
+            l.has_register(to) && l.has_register(from)
+        }
+        Instruction::Goto { target } => l.has_address(target),
         Instruction::If {
-            condition,
             left,
             right,
             target,
-        } => both(
-            (left as u64) < n,
-            both((right as u64) < n, (target as u64) < l.length),
-        ),
+            ..
+        } => l.has_register(left) && l.has_register(right) && l.has_address(target),
         Instruction::IfZero {
-            condition,
             register,
             target,
-        } => both((register as u64) < n, (target as u64) < l.length),
+            ..
+        } => l.has_register(register) && l.has_address(target),
         Instruction::Binop {
-            operation,
             to,
             left,
             right,
-        } => three(to, n, left, n, right, n),
-        Instruction::Unop {
-            operation,
-            to,
-            from,
-        } => two(to, n, from, n),
-        Instruction::NewInstance { to, class } => two(to, n, class, l.classes),
-        Instruction::Iget { to, object, field } => three(to, n, object, n, field, l.fields),
-        Instruction::Iput {
-            from,
+            ..
+        } => l.has_register(to) && l.has_register(left) && l.has_register(right),
+        Instruction::NewInstance { to: r, class } | Instruction::CheckCast { register: r, class } =>
+            { l.has_register(r) && l.has_class(class) }
+        Instruction::Iget {
+            to: r,
             object,
             field,
-        } => three(from, n, object, n, field, l.fields),
-        Instruction::Sget { to, place } => two(to, n, place, l.statics),
-        Instruction::Sput { from, place } => two(from, n, place, l.statics),
-        Instruction::InvokeVirtual { name, count, first } => both(
-            0 < count,
-            arguments_fit(first, count, n),
-        ),
+        }
+        | Instruction::Iput {
+            from: r,
+            object,
+            field,
+        } => { l.has_register(r) && l.has_register(object) && l.has_field(field) }
+        Instruction::Sget { to: r, place } | Instruction::Sput { from: r, place } => {
+            l.has_register(r) && l.has_static(place)
+        }
+        Instruction::InvokeVirtual { count, first, .. } => 0 < count
+            && l.has_arguments(first, count),
         Instruction::InvokeStatic {
             method,
             count,
             first,
-        } => both((method as u64) < l.methods, arguments_fit(first, count, n)),
-        Instruction::MoveResult { to } => (to as u64) < n,
-        Instruction::MoveException { to } => (to as u64) < n,
-        Instruction::Return { from } => (from as u64) < n,
-        Instruction::ReturnVoid => true,
-        Instruction::Throw { from } => (from as u64) < n,
-        Instruction::InstanceOf { to, from, class } => three(to, n, from, n, class, l.classes),
-        Instruction::CheckCast { register, class } => two(register, n, class, l.classes),
+        } => u64::from(method) < l.methods && l.has_arguments(first, count),
+        Instruction::InstanceOf { to, from, class } => {
+            l.has_register(to) && l.has_register(from) && l.has_class(class)
+        }
     }
 }

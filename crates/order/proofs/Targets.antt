@@ -5,6 +5,7 @@ use mathlib.Core.Bool.{true}
 use mathlib.Core.List.{List, [], ◌∷◌}
 use Prim.Native.Nat.{ℕ, suc, ◌-◌, ◌<◌}
 use native.Mathlib.Omega.{arith}
+use Rattle.std.specs.Prelude.{Some}
 use Rattle.instruction.specs.declared.Instruction.{Instruction}
 use Rattle.instruction.specs.declared.Instruction.TheVariants.{Nop, Move, Const, Goto, If, IfZero, Binop, Unop}
 use Rattle.instruction.specs.declared.Instruction.TheVariants.{NewInstance, Iget, Iput, Sget, Sput, InvokeVirtual, InvokeStatic}
@@ -15,7 +16,6 @@ use Rattle.operands.specs.Names.{named}
 use Rattle.program.specs.Lists.{Every}
 use Rattle.program.specs.Program.{Program, null_class, arithmetic_class, cast_class, method_count, registers, arguments, code_length}
 use Rattle.program.specs.Program.{instruction_at, handler_target}
-use Rattle.search.specs.declared.Callee.TheVariants.{Found}
 use Rattle.search.specs.Search.{virtual_callee}
 use Rattle.values.specs.Values.{limits_of, call_test}
 use Rattle.reader.specs.Formed.{Formed}
@@ -63,7 +63,7 @@ module _ (p : Program) (formed : Formed p) where
           let l = (formed.methods m lm).target h (handler_exists p m pc k h e) in
           (carried_own (handler_target p m h) l, (lm, l))
 
-      virtual_own : (n b c k q : ℕ) → 0 < b → virtual_callee p k n b ≡ Found q
+      virtual_own : (n b c k q : ℕ) → 0 < b → virtual_callee p k n b ≡ Some q
           → (Own p (register_at q 0 (parameter p q 0))) × ((i : ℕ) → i < b - 1 → Targets (Own p) (argument_into p m pc c q (suc i)))
       virtual_own n b c k q some-arguments e =
           let (l, same) = callee_fits p n b q k e in
@@ -75,7 +75,7 @@ module _ (p : Program) (formed : Formed p) where
       static_own : (q b c : ℕ) → q < method_count p → arguments p q ≡ b → (i : ℕ) → i < b → Targets (Own p) (argument_into p m pc c q i)
       static_own q b c l same i k = (l, omega (arith, (formed.methods q l).code_from), parameter_own q i l (omega arith))
 
-      called_own : (q b c : ℕ) → q < method_count p → arguments p q ≡ b → (n : ℕ) → Found q ≡ Found n
+      called_own : (q b c : ℕ) → q < method_count p → arguments p q ≡ b → (n : ℕ) → Some q ≡ Some n
           → (i : ℕ) → i < b → Targets (Own p) (argument_into p m pc c n i)
       called_own q b c l same n e =
           let own : q ≡ n = cc in

@@ -10,7 +10,8 @@ use Rattle.text.specs.Words.{word_of}
 use Rattle.text.proofs.Cases.{by_test}
 use Rattle.text.proofs.Packing.{Bytes, word, masked}
 use Rattle.page.specs.Digits.{digit_of, eight}
-use Rattle.page.specs.Packed.{bytes_of}
+use mir.Syntax.{w64}
+use Rattle.std.specs.Int.{to_le_bytes}
 use Rattle.page.proofs.Bytes.{packed_eight}
 
 -- 1 if the digit of a value is a letter, else 0
@@ -91,7 +92,7 @@ module _ (a b c d e f g h : ℕ) (aL : a < 16) (bL : b < 16) (cL : c < 16) (dL :
       ))
 
   -- the digit of each
-  made : bytes_of 8 (digits_made (nibbles_in a b c d e f g h))
+  made : to_le_bytes w64 (digits_made (nibbles_in a b c d e f g h))
       ≡ digit_of a ∷ digit_of b ∷ digit_of c ∷ digit_of d ∷ digit_of e ∷ digit_of f ∷ digit_of g ∷ digit_of h ∷ []
   made =
       rw (
@@ -118,7 +119,7 @@ nibbles_of n =
     (n / 256 / 16 % 16) (n / 256 % 16) (n / 16 % 16) (n % 16)
 
 -- those digits
-pub eight_made : (n : ℕ) → bytes_of 8 (digits_made (nibbles_of n)) ≡ eight n
+pub eight_made : (n : ℕ) → to_le_bytes w64 (digits_made (nibbles_of n)) ≡ eight n
 eight_made n =
     made (n / 16777216 / 16 % 16) (n / 16777216 % 16) (n / 65536 / 16 % 16) (n / 65536 % 16)
     (n / 256 / 16 % 16) (n / 256 % 16) (n / 16 % 16) (n % 16)

@@ -1,12 +1,13 @@
 -- What is put into a buffer: nothing, one text after another, and a text that fits. Assumes nothing.
 use mathlib.Core.Path.{◌≡◌, refl, sym, ap, ◌∙◌}
 use mathlib.Core.Bool.{Bool, true, false, cond as pick}
-use mathlib.Core.List.{List, [], ◌∷◌, ◌++◌}
-use Prim.Native.Nat.{ℕ, suc, ◌+◌, ◌≤◌, ◌<◌}
+use mathlib.Core.List.{List, [], ◌∷◌, ◌++◌, append_assoc}
+use Prim.Native.Nat.{ℕ, suc, ◌+◌, ◌-◌, ◌≤◌, ◌<◌}
 use native.Mathlib.Numerals.{add-one}
 use native.Mathlib.Nat.{zero-add}
 use native.Mathlib.Omega.{arith}
 use borrow.Author.Tests.{lt-ltb, le-ltb, le-leb, lt-leb, leb-true}
+use borrow.Rule.Slice.PartMut.{put_mid, Post-is}
 use lib.Dec.{leb}
 use lib.ListN.{length, take, drop, get_or, set, length-set}
 use lib.Seq.{sets, sets-eq, set_out, take-suc}
@@ -75,18 +76,8 @@ pub put_at : {out : List ℕ} {at : ℕ} {text after : List ℕ} {next other : �
 put_at p e = rw e at p
 
 -- one byte more of a byte string
-pub put_more : (bytes : List ℕ) (i : ℕ) {out : List ℕ} {at : ℕ} {a : List ℕ} {k : ℕ} {b : List ℕ} {j : ℕ} → i < length bytes
-    → Put out at (take i bytes) a k
-    → Put a k (get_or bytes i 0 ∷ []) b j
-    → Put out at (take (i + 1) bytes) b j
-put_more bytes i h p q = put_as (put_then p q) (sym (ap (λ (n : ℕ). take n bytes) (add-one i) ∙ take-suc bytes i 0 h))
-
--- the same inside the buffer
-pub put_next : (bytes : List ℕ) (i : ℕ) {out : List ℕ} {at : ℕ} {a : List ℕ} → i < length bytes → at + length bytes ≤ length out
-    → Put out at (take i bytes) a (at + i)
-    → Put out at (take (i + 1) bytes) (set a (at + i) (get_or bytes i 0)) (at + (i + 1))
-put_next bytes i {out} {at} {a} h room p =
-    put_at (put_more bytes i h p (put_inside a (at + i) (get_or bytes i 0) (omega (arith, h, room, put_length p)))) (omega arith)
+pub take_more : (bytes : List ℕ) (i : ℕ) → i < length bytes → take i bytes ++ (get_or bytes i 0 ∷ []) ≡ take (i + 1) bytes
+take_more bytes i h = sym (ap (λ (n : ℕ). take n bytes) (add-one i) ∙ take-suc bytes i 0 h)
 
 -- a text that fits
 fits_place : (n : ℕ) (text : List ℕ) (at : ℕ) → at + length text ≤ n → place_after n at text ≡ at + length text
@@ -104,6 +95,16 @@ fits_sets (b ∷ bs) out at h =
     let inside : at < length out = omega arith in
     let next : suc at + length bs ≤ length (set out at b) = omega (arith, length-set out at b) in
     rw (lt-ltb at (length out) inside, add-one) (fits_sets bs (set out at b) (suc at) next)
+
+-- the same, put in at once
+pub put_room : (text out : List ℕ) (at : ℕ) → at + length text ≤ length out
+    → Put out at text (put_mid at (at + length text - at) out text) (at + length text)
+put_room text out at h =
+    record {
+      place = sym (fits_place (length out) text at h);
+      bytes =
+          rw (Post-is at (at + length text) out (omega arith)) (sym (fits_sets text out at h ∙ sets-eq text out at h ∙ append_assoc (take at out) text (drop (at + length text) out)));
+    }
 
 -- a text put at the front, whole
 module _ {text out after : List ℕ} {n : ℕ} (p : Put out 0 text after n) (h : length text ≤ length out) where

@@ -1,3 +1,3 @@
 pub mod Page
 pub mod Digits
-pub mod Packed
+pub mod OnPage

@@ -1,15 +1,15 @@
 -- What `step` answers and leaves, from what a run left and what the reader answered. Assumes nothing.
 use mathlib.Core.Path.{◌≡◌, refl, sym, ap, ◌∙◌}
 use mathlib.Core.Bool.{Bool, true, false, false≢true}
-use mathlib.Core.List.{List, [], ◌∷◌}
-use Prim.Native.Nat.{ℕ, suc, ◌≤◌}
+use mathlib.Core.List.{List}
+use Prim.Native.Nat.{ℕ, suc, ◌≤◌, ◌*◌}
 use native.Mathlib.Omega.{arith}
 use lib.ListN.{length, replicate}
+use Rattle.std.specs.Prelude.{Option}
+use Rattle.turn.specs.declared.Halt.{Halt}
 use Rattle.instruction.specs.Test.{most, ◌&◌}
 use Rattle.instruction.proofs.Laws.{holds}
-use Rattle.reader.specs.declared.Answer.{Answer}
-use Rattle.reader.specs.Read.{Reading, refused, taken, read_program, reading_number, reading_values, tables_after, number_of as read_number, values_of as read_values, line_of}
-use Rattle.reader.proofs.Answers.{line_is, found_program}
+use Rattle.reader.specs.Read.{Reading, refused, taken, read_program, tables_after}
 use Rattle.cells.specs.declared.Value.{Value}
 use Rattle.cells.specs.declared.Frame.{Frame}
 use Rattle.cells.specs.declared.Object.{Object}
@@ -18,20 +18,10 @@ use Rattle.bounded.specs.declared.Outcome.{Outcome}
 use Rattle.bounded.specs.declared.Outcome.TheVariants.{Refused, Short, Ran}
 use Rattle.bounded.specs.Step.{Stepping, turned_down, short, ran, enough, stepping_by, stepping, stepping_number, stepping_values, frames_after, objects_after, statics_after, tables_left, pending_in, pending_values, number_of, values_of}
 use Rattle.bounded.specs.Lent.{lending, frames_left, objects_left, statics_left}
-use Rattle.plain.specs.declared.Left.{Left}
-use Rattle.plain.specs.Words.{put, word_in, frames_word, objects_word, has_run}
+use Rattle.store.specs.Store.{absent_frame, absent_object}
+use Rattle.plain.specs.Words.{put, word_in, value_word_in, frame_word_in, object_word_in, each_word, frames_word, objects_word}
+use Rattle.plain.proofs.Elements.{values_put}
 use Rattle.plain.proofs.States.{frames_words, objects_words, statics_words}
-
--- ---- what is answered where no program is run
-
-pub refused_answers : (x : Reading) (a : Answer) → read_number a ≡ reading_number x → read_values a ≡ reading_values x → (read_number a ≡ 0 → ⊥)
-    → (read_number a ≡ stepping_number (stepping_by x 0 false)) × (line_of a ∷ [] ≡ stepping_values (stepping_by x 0 false))
-refused_answers (refused number line) a e v d = (e, sym (line_is a d) ∙ v)
-refused_answers (taken p) a e v d = absurd (d e)
-
-pub short_answers : (x : Reading) (a : Answer) → read_values a ≡ reading_values x → read_number a ≡ 0
-    → (23 ≡ stepping_number (stepping_by x 0 false)) × ([] ≡ stepping_values (stepping_by x 0 false))
-short_answers x a v z = found_program x a z v (λ p q. rw q (refl, refl))
 
 -- with too little memory nothing is written, and n says nothing
 few : (x : Reading) (n : ℕ) → stepping_by x n false ≡ stepping_by x 0 false
@@ -85,7 +75,17 @@ module _ (text : List ℕ) (n : ℕ) (frames objects statics t : List ℕ) where
 
 -- ---- what is written where a program ran
 
--- whether a program ran
+-- whether a program ran, by an answer and in what becomes of a text
+abbrev pub has_run : Outcome → Bool
+has_run (Refused number line) = false
+has_run Short = false
+has_run (Ran halt steps frames objects pending) = true
+
+pub no_run : (r : Outcome) → ((h : Halt) (k f o : ℕ) (p : Option ℕ) → r ≡ Ran h k f o p → ⊥) → has_run r ≡ false
+no_run (Refused number line) d = refl
+no_run Short d = refl
+no_run (Ran h k f o p) d = absurd (d h k f o p refl)
+
 abbrev ran_in : Stepping → Bool
 ran_in (turned_down number line) = false
 ran_in short = false
@@ -128,7 +128,7 @@ enough_is a b c e =
     (h.0, h.1.0, h.1.1)
 
 module _ (text : List ℕ) (n : ℕ) (frames objects statics : List ℕ) (room : enough (length frames) (length objects) (length statics) ≡ true)
-    (f : Frame) (o : Object) (v : Value) (f-is : f ≡ zero_frame) (o_is : o ≡ zero_object) (v-is : v ≡ zero_value) (left : Left) where
+    (f : Frame) (o : Object) (v : Value) (f-is : f ≡ zero_frame) (o_is : o ≡ zero_object) (v-is : v ≡ zero_value) (r : Outcome) where
   -- what becomes of the text in slices of its own, and in the words
   abbrev y : Stepping
   y = lending text n (replicate 32 f) (replicate 256 o) (replicate 16 v)
@@ -140,24 +140,31 @@ module _ (text : List ℕ) (n : ℕ) (frames objects statics : List ℕ) (room :
   unfolding stepping lending
   same = rw room refl
 
-  module _ (e : (number_of left.outcome ≡ stepping_number y) × (values_of left.outcome ≡ stepping_values y)) where
-    pub answers : Answers text n frames objects statics left.outcome
+  module _ (e : (number_of r ≡ stepping_number y) × (values_of r ≡ stepping_values y)) where
+    pub answers : Answers text n frames objects statics r
     answers = (e.0 ∙ ap stepping_number same, e.1 ∙ ap stepping_values same)
 
-    ran_is : (b : Bool) → has_run left.outcome ≡ b → ran_in x ≡ b
-    ran_is b h = sym (has_run_is left.outcome x answers.1) ∙ h
+    ran_is : (b : Bool) → has_run r ≡ b → ran_in x ≡ b
+    ran_is b h = sym (has_run_is r x answers.1) ∙ h
 
-    pub leaves_none : has_run left.outcome ≡ false → Leaves text n frames objects statics frames objects statics
+    pub leaves_none : has_run r ≡ false → Leaves text n frames objects statics frames objects statics
     leaves_none h = untouched x frames objects statics (ran_is false h)
 
-    pub leaves : has_run left.outcome ≡ true
-        → (left.frames ≡ frames_left y (replicate 32 f)) × (left.objects ≡ objects_left y (replicate 256 o)) × (left.statics ≡ statics_left y (replicate 16 v))
-        → (fs os ss : List ℕ) → fs ≡ put 608 (frames_word left.frames) frames 0 → os ≡ put 4352 (objects_word left.objects) objects 0 → ss ≡ put 16 (word_in left.statics) statics 0
-        → Leaves text n frames objects statics fs os ss
-    leaves h m fs os ss a b c =
-        let u = enough_is (length frames) (length objects) (length statics) room in
-        let w = written x frames objects statics (ran_is true h) u.0 u.1 u.2 in (
-          a ∙ ap (λ (l : List Frame). put 608 (frames_word l) frames 0) (m.0 ∙ ap (λ (z : Stepping). frames_left z (replicate 32 f)) same ∙ ap (λ (g : Frame). frames_left x (replicate 32 g)) f-is) ∙ w.0,
-          b ∙ ap (λ (l : List Object). put 4352 (objects_word l) objects 0) (m.1 ∙ ap (λ (z : Stepping). objects_left z (replicate 256 o)) same ∙ ap (λ (g : Object). objects_left x (replicate 256 g)) o_is) ∙ w.1,
-          c ∙ ap (λ (l : List Value). put 16 (word_in l) statics 0) (m.2 ∙ ap (λ (z : Stepping). statics_left z (replicate 16 v)) same ∙ ap (λ (g : Value). statics_left x (replicate 16 g)) v-is) ∙ w.2,
-        )
+    -- its own frames, objects and statics, of which there are as many as a state has
+    module _ (fs : List Frame) (os : List Object) (ss : List Value) (many : length fs ≡ 32) (more : length os ≡ 256) (few-statics : length ss ≡ 16) where
+      pub leaves : has_run r ≡ true
+          → (fs ≡ frames_left y (replicate 32 f)) × (os ≡ objects_left y (replicate 256 o)) × (ss ≡ statics_left y (replicate 16 v))
+          → (frames' objects' statics' : List ℕ) → frames' ≡ put (19 * length fs) (each_word 19 frame_word_in absent_frame fs) frames 0
+          → objects' ≡ put (17 * length os) (each_word 17 object_word_in absent_object os) objects 0
+          → statics' ≡ put (1 * length ss) (each_word 1 value_word_in zero_value ss) statics 0
+          → Leaves text n frames objects statics frames' objects' statics'
+      unfolding frames_word objects_word
+      leaves h m frames' objects' statics' a b c =
+          let u = enough_is (length frames) (length objects) (length statics) room in
+          let w = written x frames objects statics (ran_is true h) u.0 u.1 u.2 in
+          let i : 19 * length fs ≡ 608 = omega arith in
+          let j : 17 * length os ≡ 4352 = omega arith in (
+            a ∙ ap (λ (k : ℕ). put k (frames_word fs) frames 0) i ∙ ap (λ (l : List Frame). put 608 (frames_word l) frames 0) (m.0 ∙ ap (λ (z : Stepping). frames_left z (replicate 32 f)) same ∙ ap (λ (g : Frame). frames_left x (replicate 32 g)) f-is) ∙ w.0,
+            b ∙ ap (λ (k : ℕ). put k (objects_word os) objects 0) j ∙ ap (λ (l : List Object). put 4352 (objects_word l) objects 0) (m.1 ∙ ap (λ (z : Stepping). objects_left z (replicate 256 o)) same ∙ ap (λ (g : Object). objects_left x (replicate 256 g)) o_is) ∙ w.1,
+            c ∙ values_put ss statics 0 (length ss) ∙ ap (λ (k : ℕ). put k (word_in ss) statics 0) few-statics ∙ ap (λ (l : List Value). put 16 (word_in l) statics 0) (m.2 ∙ ap (λ (z : Stepping). statics_left z (replicate 16 v)) same ∙ ap (λ (g : Value). statics_left x (replicate 16 g)) v-is) ∙ w.2,
+          )

@@ -4,84 +4,22 @@
 
 mod words; // words.rt: what a run left, as words
 
-ghost use Rattle.std.specs.Prelude.{◌≡◌, true, false, length, replicate};
+ghost use Rattle.std.specs.Prelude.{◌≡◌, true, false, length};
 ghost use Rattle.reader.specs.Read.{read_program};
 ghost use Rattle.bounded.specs.Step.{stepping, stepping_number, stepping_values, frames_after, objects_after, statics_after, tables_left, enough, stepping_by, number_of, values_of};
-ghost use Rattle.bounded.specs.Lent.{lending, frames_left, objects_left, statics_left};
-ghost use Rattle.plain.specs.Words.{put, word_in, frames_word, objects_word, has_run};
 
 use bounded::Outcome;
 use cells::{Frame, Object, Value};
-
-// What a run answers and leaves.
-#[derive(Clone, Copy)]
-struct Left {
-    outcome: Outcome,
-    frames: [Frame; 32],
-    objects: [Object; 256],
-    statics: [Value; 16],
-}
-
-// Writes all that a run left as words.
-fn put_left(left: Left, frames: &mut [u64], objects: &mut [u64], statics: &mut [u64])
-    ensures frames { frames.new ≡ put 608 (frames_word left.frames) frames.old 0 }
-    ensures objects { objects.new ≡ put 4352 (objects_word left.objects) objects.old 0 }
-    ensures statics { statics.new ≡ put 16 (word_in left.statics) statics.old 0 }
-{
-    let fs = left.frames;
-    words::put_frames(frames, fs);
-    let os = left.objects;
-    words::put_objects(objects, os);
-    let ss = left.statics;
-    words::put_values(statics, 0, ss);
-}
-
-// The stepper, in frames, objects and statics of its own, each of which begins as given.
-fn run(text: &[u8], n: u64, f: Frame, o: Object, v: Value) -> Left
-    ensures answer { let x = lending text.now n (replicate 32 f) (replicate 256 o) (replicate 16 v) in
-        (number_of result.outcome ≡ stepping_number x) × (values_of result.outcome ≡ stepping_values x) }
-    ensures memory { let x = lending text.now n (replicate 32 f) (replicate 256 o) (replicate 16 v) in
-        (result.frames ≡ frames_left x (replicate 32 f))
-        × (result.objects ≡ objects_left x (replicate 256 o))
-        × (result.statics ≡ statics_left x (replicate 16 v)) }
-{
-    let mut frames = [f; 32];
-    let mut objects = [o; 256];
-    let mut statics = [v; 16];
-    let outcome = stepper::step(text, n, &mut frames, &mut objects, &mut statics);
-    Left {
-        outcome,
-        frames,
-        objects,
-        statics,
-    }
-}
+use words::put_all;
 
 // Whether so many words are enough for 32 frames, 256 objects and 16 statics.
 fn suffices(frames: usize, objects: usize, statics: usize) -> bool
     ensures value { result ≡ enough frames objects statics }
 {
-    if frames < 608 {
-        return false;
-    }
-    if objects < 4352 {
-        return false;
-    }
-    16 <= statics
+    608 <= frames && 4352 <= objects && 16 <= statics
 }
 
-// Whether a program ran.
-fn did_run(o: Outcome) -> bool
-    ensures value { result ≡ has_run o }
-{
-    match o {
-        Outcome::Ran { .. } => true,
-        Outcome::Refused { .. } => false,
-        Outcome::Short => false,
-    }
-}
-
-// Runs a text, and writes what is left where a program ran.
+// Runs a text in frames, objects and statics of its own, and writes what is left where a program ran.
 fn begin(
     text: &[u8],
     n: u64,
@@ -97,14 +35,14 @@ fn begin(
         × (objects.new ≡ objects_after x objects.old)
         × (statics.new ≡ statics_after x statics.old) }
 {
-    let f = cells::zero_frame();
-    let o = cells::zero_object();
-    let v = cells::zero_value();
-    let left = run(text, n, f, o, v);
-    let outcome = left.outcome;
-    if did_run(outcome) {
-        put_left(left, frames, objects, statics);
-        return outcome;
+    let mut own_frames = [Frame::default(); 32];
+    let mut own_objects = [Object::default(); 256];
+    let mut own_statics = [Value::default(); 16];
+    let outcome = stepper::step(text, n, &mut own_frames, &mut own_objects, &mut own_statics);
+    if let Outcome::Ran { .. } = outcome {
+        put_all(frames, 0, &own_frames);
+        put_all(objects, 0, &own_objects);
+        put_all(statics, 0, &own_statics);
     }
     outcome
 }
@@ -115,15 +53,13 @@ fn refusal(text: &[u8]) -> Outcome
         (number_of result ≡ stepping_number x) × (values_of result ≡ stepping_values x) }
 {
     let mut t = [0u64; 768];
-    let read = reader::read(text, &mut t);
-    let number = reader::number_of(read);
-    if number != 0 {
-        return Outcome::Refused {
-            number,
-            line: reader::line_of(read),
-        };
+    match reader::read(text, &mut t) {
+        Ok(()) => Outcome::Short,
+        Err(refused) => Outcome::Refused {
+            number: refused.number(),
+            line: refused.line(),
+        },
     }
-    Outcome::Short
 }
 
 // Runs a program text for at most n steps. Refused, or short of memory: lent memory is as it was. Else it holds the state.
@@ -166,7 +102,7 @@ pub fn step_in(
         t.new ≡ tables_left x (read_program text.now) t.old }
 {
     if suffices(frames.len(), objects.len(), statics.len()) {
-        reader::read(text, t);
+        let _ = reader::read(text, t); // a refusal is told by the run
         return begin(text, n, frames, objects, statics);
     }
     refusal(text)

@@ -1,65 +1,73 @@
 // Values, frames and objects of the stepper's own, written as words into lent memory.
-ghost use Rattle.std.specs.Prelude.{◌≡◌};
-ghost use Rattle.plain.specs.Words.{put, word_in, frame_word_in, object_word_in, frames_word, objects_word};
+ghost use Rattle.std.specs.Prelude.{◌≡◌, ℕ, ◌+◌, ◌*◌, ◌<◌, ◌^◌, length};
+ghost use Rattle.plain.specs.Words.{put, value_word_in, frame_word_in, object_word_in, each_word};
 
 use cells::{Frame, Object, Value};
 
-// Writes values as words, from a place on.
-pub fn put_values(ws: &mut [u64], at: u32, cs: [Value; 16])
-    ensures memory { ws.new ≡ put 16 (word_in cs) ws.old at }
+// A struct that is written as words, one after another: how many, and word j of it.
+pub trait InWords: Copy {
+    ghost SIZE: { ℕ };
+
+    ghost word: { Self → ℕ → ℕ };
+
+    const SIZE: usize;
+
+    // Writes its words, from a place on.
+    fn put(self, ws: &mut [u64], at: usize)
+        requires { at + SIZE < 2 ^ 64 }
+        ensures { ws.new ≡ put SIZE (word self) ws.old at };
+}
+
+// Writes structs as words, one after another from a place on.
+pub fn put_all<T: InWords>(ws: &mut [u64], at: usize, xs: &[T])
+    requires { at + T.SIZE * length xs.now < 2 ^ 64 }
+    ensures memory { (d : T) → ws.new ≡ put (T.SIZE * length xs.now) (each_word T.SIZE T.word d xs.now) ws.old at }
 {
-    let mut j: usize = 0;
-    while j < 16 {
-        let c = cs[j];
-        memory::put_value(&mut *ws, at as usize + j, cells::value_of(c));
-        j += 1;
+    let mut at = at;
+    for x in xs {
+        x.put(&mut *ws, at);
+        at += T::SIZE;
     }
 }
 
-// Writes a frame as words, from a place on: method, address, result, 16 registers.
-fn put_frame(ws: &mut [u64], at: u16, f: Frame)
-    ensures memory { ws.new ≡ put 19 (frame_word_in f) ws.old at }
-{
-    let i = at as usize;
-    memory::put_word(&mut *ws, i, f.method as u64);
-    memory::put_word(&mut *ws, i + 1, f.address as u64);
-    let v = f.result;
-    memory::put_value(&mut *ws, i + 2, cells::value_of(v));
-    let cs = f.registers;
-    put_values(ws, at as u32 + 3, cs);
-}
+impl InWords for Value {
+    ghost SIZE = { 1 };
 
-// Writes an object as words, from a place on: class, 16 cells.
-fn put_object(ws: &mut [u64], at: u16, o: Object)
-    ensures memory { ws.new ≡ put 17 (object_word_in o) ws.old at }
-{
-    memory::put_word(&mut *ws, at as usize, o.class as u64);
-    let cs = o.cells;
-    put_values(ws, at as u32 + 1, cs);
-}
+    ghost word = { value_word_in };
 
-// Writes 32 frames, one after another.
-pub fn put_frames(ws: &mut [u64], fs: [Frame; 32])
-    ensures memory { ws.new ≡ put 608 (frames_word fs) ws.old 0 }
-{
-    let mut i: u16 = 0;
-    while i < 32 {
-        let k = i as usize;
-        let f = fs[k];
-        put_frame(&mut *ws, 19 * i, f);
-        i += 1;
+    const SIZE: usize = 1;
+
+    fn put(self, ws: &mut [u64], at: usize) {
+        memory::put_value(ws, at, self.into());
     }
 }
 
-// Writes 256 objects, one after another.
-pub fn put_objects(ws: &mut [u64], os: [Object; 256])
-    ensures memory { ws.new ≡ put 4352 (objects_word os) ws.old 0 }
-{
-    let mut i: u16 = 0;
-    while i < 256 {
-        let k = i as usize;
-        let o = os[k];
-        put_object(&mut *ws, 17 * i, o);
-        i += 1;
+// Method, address, result, 16 registers.
+impl InWords for Frame {
+    ghost SIZE = { 19 };
+
+    ghost word = { frame_word_in };
+
+    const SIZE: usize = 19;
+
+    fn put(self, ws: &mut [u64], at: usize) {
+        memory::put_word(&mut *ws, at, self.method as u64);
+        memory::put_word(&mut *ws, at + 1, self.address as u64);
+        self.result.put(&mut *ws, at + 2);
+        put_all(ws, at + 3, &self.registers);
+    }
+}
+
+// Class, 16 cells.
+impl InWords for Object {
+    ghost SIZE = { 17 };
+
+    ghost word = { object_word_in };
+
+    const SIZE: usize = 17;
+
+    fn put(self, ws: &mut [u64], at: usize) {
+        memory::put_word(&mut *ws, at, self.class as u64);
+        put_all(ws, at + 1, &self.cells);
     }
 }

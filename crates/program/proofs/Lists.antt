@@ -2,13 +2,14 @@
 use mathlib.Core.Path.{◌≡◌, refl, sym, ap, ◌∙◌}
 use mathlib.Core.Bool.{Bool, true, false}
 use mathlib.Core.List.{List, [], ◌∷◌, ◌++◌, reverse, reverse-cons}
-use mathlib.Core.Option.{none, some, none-ne-some}
-use Prim.Native.Nat.{ℕ, zero, suc, ◌+◌, ◌-◌, ◌≤◌, ◌<◌}
+use Prim.Native.Nat.{ℕ, zero, suc, ◌+◌, ◌-◌, ◌≤◌, ◌<◌, zero-le}
 use native.Mathlib.Nat.{not-suc-le-zero, le_of_suc-le-suc, add-zero}
 use native.Mathlib.Omega.{arith}
 use lib.ListN.{length, get_or, length-reverse, get_or-append}
 use lib.Seq.{get_or-append_seam}
 use native.Mathlib.Decide.{ℕ_discrete}
+use Rattle.std.specs.Prelude.{Option, Some, None, MatchOption}
+use Rattle.std.proofs.lemmas.Option.{none-some}
 use Rattle.instruction.specs.Word.{pick}
 use Rattle.program.specs.Lists.{tab, first, last}
 use Rattle.program.specs.Program.{from_last}
@@ -69,7 +70,7 @@ module _ {A : Type 0} where
           rw z (get_or-append (reverse xs) (x ∷ []) d i (rw (length-reverse xs) less) ∙ further less)
 
 -- the first that passes, where none before it does
-pub first_stop : (n : ℕ) (test : ℕ → Bool) (i : ℕ) → i < n → ((k : ℕ) → k < i → test k ≡ false) → test i ≡ true → first n test ≡ some i
+pub first_stop : (n : ℕ) (test : ℕ → Bool) (i : ℕ) → i < n → ((k : ℕ) → k < i → test k ≡ false) → test i ≡ true → first n test ≡ Some i
 first_stop zero test i l before e = absurd (not-suc-le-zero l)
 first_stop (suc n) test zero l before e = rw e
 first_stop (suc n) test (suc i) l before e =
@@ -77,7 +78,7 @@ first_stop (suc n) test (suc i) l before e =
     rw (here, first_stop n (λ k. test (suc k)) i (le_of_suc-le-suc l) (λ k h. before (suc k) (omega arith)) e)
 
 -- none passes
-pub first_none : (n : ℕ) (test : ℕ → Bool) → ((k : ℕ) → k < n → test k ≡ false) → first n test ≡ none
+pub first_none : (n : ℕ) (test : ℕ → Bool) → ((k : ℕ) → k < n → test k ≡ false) → first n test ≡ None
 first_none zero test before = refl
 first_none (suc n) test before =
     let here : test zero ≡ false = before zero (omega arith) in
@@ -85,19 +86,19 @@ first_none (suc n) test before =
 
 -- the last that passes, where none after it does
 pub last_stop : (n : ℕ) (test : ℕ → Bool) (i : ℕ) → i < n → ((k : ℕ) → i < k → k < n → test k ≡ false) → test i ≡ true
-    → last n test ≡ some i
+    → last n test ≡ Some i
 last_stop zero test i l after e = absurd (not-suc-le-zero l)
 last_stop (suc n) test i l after e =
     by (ℕ_discrete i n) (λ less. last_stop n test i less (λ k h b. after k h (omega arith)) e)
   where
-    by : Dec (i ≡ n) → (i < n → last n test ≡ some i) → last (suc n) test ≡ some i
+    by : Dec (i ≡ n) → (i < n → last n test ≡ Some i) → last (suc n) test ≡ Some i
     by (yes same) further = rw (← same, e)
     by (no differs) further =
         let there : test n ≡ false = after n (omega arith) (omega arith) in
         rw there (further (omega arith))
 
 -- none passes
-pub last_none : (n : ℕ) (test : ℕ → Bool) → ((k : ℕ) → k < n → test k ≡ false) → last n test ≡ none
+pub last_none : (n : ℕ) (test : ℕ → Bool) → ((k : ℕ) → k < n → test k ≡ false) → last n test ≡ None
 last_none zero test fails = refl
 last_none (suc n) test fails =
     let there : test n ≡ false = fails n (omega arith) in
@@ -109,11 +110,11 @@ pub record Last (n : ℕ) (test : ℕ → Bool) (i : ℕ) : Type 0 where
   pub passes : test i ≡ true
   pub after : (k : ℕ) → i < k → k < n → test k ≡ false
 
-pub last_some : (n : ℕ) (test : ℕ → Bool) (i : ℕ) → last n test ≡ some i → Last n test i
-last_some zero test i e = absurd (none-ne-some i e)
+pub last_some : (n : ℕ) (test : ℕ → Bool) (i : ℕ) → last n test ≡ Some i → Last n test i
+last_some zero test i e = absurd (none-some i e)
 last_some (suc n) test i e = by (test n) refl (last_some n test i) e
   where
-    by : (t : Bool) → test n ≡ t → (last n test ≡ some i → Last n test i) → pick t (some n) (last n test) ≡ some i
+    by : (t : Bool) → test n ≡ t → (last n test ≡ Some i → Last n test i) → pick t (Some n) (last n test) ≡ Some i
         → Last (suc n) test i
     by true q before f =
         let same : n ≡ i = cc in
@@ -130,12 +131,20 @@ last_some (suc n) test i e = by (test n) refl (last_some n test i) e
         later k l b (yes same) = rw same q
         later k l b (no differs) = (before f).after k l (omega arith)
 
-pub last_nothing : (n : ℕ) (test : ℕ → Bool) → last n test ≡ none → (k : ℕ) → k < n → test k ≡ false
+pub last_nothing : (n : ℕ) (test : ℕ → Bool) → last n test ≡ None → (k : ℕ) → k < n → test k ≡ false
 last_nothing zero test e k l = absurd (not-suc-le-zero l)
 last_nothing (suc n) test e k l = by (test n) refl e (λ f b. last_nothing n test f k b) (ℕ_discrete k n)
   where
-    by : (t : Bool) → test n ≡ t → pick t (some n) (last n test) ≡ none → (last n test ≡ none → k < n → test k ≡ false)
+    by : (t : Bool) → test n ≡ t → pick t (Some n) (last n test) ≡ None → (last n test ≡ None → k < n → test k ≡ false)
         → Dec (k ≡ n) → test k ≡ false
-    by true q f before d = absurd (none-ne-some n (sym f))
+    by true q f before d = absurd (none-some n (sym f))
     by false q f before (yes same) = rw same q
     by false q f before (no differs) = before f (omega arith)
+
+-- what `find` answers over 0 .. n
+pub first_found : (n : ℕ) (test : ℕ → Bool) (r : Option ℕ)
+    → MatchOption r ((k : ℕ) → 0 ≤ k → k < n → test k ≡ false)
+    (λ i. (0 ≤ i) × (i < n) × (test i ≡ true) × ((k : ℕ) → 0 ≤ k → k < i → test k ≡ false))
+    → r ≡ first n test
+first_found n test None fails = sym (first_none n test (λ k l. fails k zero-le l))
+first_found n test (Some i) (z, l, e, before) = sym (first_stop n test i l (λ k h. before k zero-le h) e)

@@ -1,18 +1,18 @@
 -- What stands in tables, by the words that say it: counts, elements of lists, methods. Assumes nothing.
 use mathlib.Core.Path.{◌≡◌, refl, ap, ◌∙◌}
-use mathlib.Core.List.{List, []}
-use Prim.Native.Nat.{ℕ, ◌+◌, ◌*◌, ◌≤◌, ◌<◌, min}
+use mathlib.Core.List.{List, [], reverse}
+use Prim.Native.Nat.{ℕ, zero, suc, ◌+◌, ◌-◌, ◌*◌, ◌≤◌, ◌<◌, min}
 use native.Mathlib.Nat.{min-le_right, lt_of_lt_of_le}
 use native.Mathlib.Omega.{arith}
-use mathlib.Core.Bool.{Bool, true, false}
+use mathlib.Core.Bool.{Bool, true, false, cond}
 use borrow.Author.Tests.{ltb-true, ltb-false}
 use lib.Dec.{ltb}
-use lib.ListN.{length, get_or, get_or-eq_default}
+use lib.ListN.{length, get_or, get_or-eq_default, length-reverse}
 use Rattle.program.specs.Lists.{tab}
 use Rattle.program.specs.Program.{Method, no_method, class_count, field_count, method_count, method_at, superclass, field_class}
-use Rattle.program.specs.Program.{code_length, word_at, handler_count}
+use Rattle.program.specs.Program.{code_length, word_at, handler_count, handler_at, from_last}
 use Rattle.program.specs.Tables.{method_from, program_in}
-use Rattle.program.proofs.Lists.{length_tab, getD_tab}
+use Rattle.program.proofs.Lists.{length_tab, getD_tab, get_d_reverse}
 
 -- a list of at most `limit` elements of the tables
 module _ {A : Type 0} (w limit : ℕ) (f : ℕ → A) where
@@ -120,3 +120,61 @@ module _ (ws : List ℕ) where
       → (m < 16) × (i < 8) × (get_or (method_at (program_in ws) m).handlers i 0 ≡ get_or ws (640 + 8 * m + i) 0)
   unfolding method_from
   in_handlers m i l = part_element (λ x. x.handlers) refl m (get_or ws (82 + 3 * m) 0) 8 (λ i. get_or ws (640 + 8 * m + i) 0) refl i l
+
+  -- ---- the words of a method, 0 where the program does not have it
+  -- what a method that there is has, and what one that there is not
+  by_method : {A : Type 0} (part : Method → A) (m : ℕ) (x : ℕ) (f : ℕ → A)
+      → (m < method_count (program_in ws) → part (method_at (program_in ws) m) ≡ f x) → part no_method ≡ f 0
+      → part (method_at (program_in ws) m) ≡ f (cond (ltb m (method_count (program_in ws))) x 0)
+  by_method part m x f here out = by (ltb m (method_count (program_in ws))) refl
+    where
+      by : (t : Bool) → ltb m (method_count (program_in ws)) ≡ t → part (method_at (program_in ws) m) ≡ f (cond t x 0)
+      by true e = here (ltb-true m (method_count (program_in ws)) e)
+      by false e = ap part (method_out m (ltb-false m (method_count (program_in ws)) e)) ∙ out
+
+  pub header_in : (m : ℕ) → (method_at (program_in ws) m).header ≡ cond (ltb m (method_count (program_in ws))) (get_or ws (80 + 3 * m + 0) 0) 0
+  header_in m = by_method (λ x. x.header) m (get_or ws (80 + 3 * m + 0) 0) (λ n. n) (λ l. header_is m l ∙ ap (λ i. get_or ws i 0) (omega arith)) refl
+
+  pub code_length_in : (m : ℕ)
+      → code_length (program_in ws) m ≡ min (cond (ltb m (method_count (program_in ws))) (get_or ws (80 + 3 * m + 1) 0) 0) 32
+  code_length_in m =
+      by_method (λ x. length x.code) m (get_or ws (80 + 3 * m + 1) 0) (λ n. min n 32)
+      (λ l. code_length_is m l ∙ ap (λ i. min (get_or ws i 0) 32) (omega arith))
+      refl
+
+  pub handler_count_in : (m : ℕ)
+      → handler_count (program_in ws) m ≡ min (cond (ltb m (method_count (program_in ws))) (get_or ws (80 + 3 * m + 2) 0) 0) 8
+  handler_count_in m =
+      by_method (λ x. length x.handlers) m (get_or ws (80 + 3 * m + 2) 0) (λ n. min n 8)
+      (λ l. handlers_are m l ∙ ap (λ i. min (get_or ws i 0) 8) (omega arith))
+      refl
+
+  -- ---- a method that has instructions or handlers is one of 16
+  pub code_room : (m : ℕ) → code_length (program_in ws) m ≤ 32 * (16 - m)
+  code_room m = by (code_length (program_in ws) m) refl
+    where
+      by : (n : ℕ) → code_length (program_in ws) m ≡ n → n ≤ 32 * (16 - m)
+      by zero e = omega arith
+      by (suc k) e =
+          let (a, b, h) = in_code m k (omega arith) in
+          omega arith
+
+  pub handler_room : (m : ℕ) → handler_count (program_in ws) m ≤ 8 * (16 - m)
+  handler_room m = by (handler_count (program_in ws) m) refl
+    where
+      by : (n : ℕ) → handler_count (program_in ws) m ≡ n → n ≤ 8 * (16 - m)
+      by zero e = omega arith
+      by (suc k) e =
+          let (a, b, h) = in_handlers m k (omega arith) in
+          omega arith
+
+  -- ---- handlers by number
+  pub in_lines : (m h : ℕ) → h < handler_count (program_in ws) m
+      → handler_at (program_in ws) m h ≡ get_or ws (640 + 8 * m + from_last (handler_count (program_in ws) m) h) 0
+  in_lines m h l =
+      let (a, b, e) = in_handlers m (from_last (handler_count (program_in ws) m) h) (omega arith) in
+      get_d_reverse (method_at (program_in ws) m).handlers h 0 l ∙ e
+
+  pub past_lines : (m h : ℕ) → handler_count (program_in ws) m ≤ h → handler_at (program_in ws) m h ≡ 0
+  past_lines m h l =
+      get_or-eq_default (reverse (method_at (program_in ws) m).handlers) 0 (omega (arith, length-reverse (method_at (program_in ws) m).handlers))

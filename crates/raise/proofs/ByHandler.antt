@@ -4,12 +4,12 @@ use mathlib.Core.Path.{◌≡◌, sym, ◌∙◌}
 use mathlib.Core.Bool.{true, false, ◌&&◌}
 use Prim.Native.Nat.{ℕ, ◌+◌, ◌<◌}
 use lib.Dec.{ltb}
+use Rattle.std.specs.Prelude.{Some}
 use Rattle.text.proofs.Cases.{by_test, never}
 use Rattle.mask.specs.declared.Mask.{Mask}
 use Rattle.mask.specs.Mask.{has}
 use Rattle.mask.proofs.Laws.{has_less}
 use Rattle.program.specs.Program.{Program, class_count, handler_count, handler_target}
-use Rattle.search.specs.declared.Handling.TheVariants.{Caught}
 use Rattle.search.specs.Search.{catches, handler_for}
 use Rattle.flow.specs.Claim.{result_at, leaving, Claim}
 use Rattle.flow.specs.Flows.{Flows, ◌∈◌, ◌&◌, Holds}
@@ -30,7 +30,7 @@ module _ (p : Program) (m pc : ℕ) (mask : Mask) where
   pub record Partial (h : ℕ) (c d : Claim) : Type 0 where
     pub grows : Below c d
     pub asked : (k : ℕ) → k < class_count p → has mask k ≡ true → passed p m pc h k ≡ false
-        → (i : ℕ) × (handler_for p m pc k ≡ Caught i) × Goes c d (into i k)
+        → (i : ℕ) × (handler_for p m pc k ≡ Some i) × Goes c d (into i k)
     pub least : (e : Claim) → Holds e (raised_flows p m pc mask) → Below c e → Below d e
 
   pub partial_start : (c : Claim) → Partial (handler_count p m) c c
@@ -46,7 +46,7 @@ module _ (p : Program) (m pc : ℕ) (mask : Mask) where
       (bits : (k : ℕ) → has taken k ≡ has rest k && (ltb k (class_count p) && catches p m pc k h))
       (c d e : Claim) (so : Partial (h + 1) c d) (r : Raised (taken_into p m pc (handler_target p m h) taken) d e) where
     more_asked : (k : ℕ) → k < class_count p → has mask k ≡ true → passed p m pc h k ≡ false
-        → (i : ℕ) × (handler_for p m pc k ≡ Caught i) × Goes c e (into i k)
+        → (i : ℕ) × (handler_for p m pc k ≡ Some i) × Goes c e (into i k)
     more_asked k less t f =
         by_test (passed p m pc (h + 1) k)
         (λ before.

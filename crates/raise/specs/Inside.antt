@@ -9,6 +9,7 @@ use Rattle.flow.specs.Claim.{Slot, result_at, field_of, Claim}
 use Rattle.flow.specs.Flows.{Flows, ◌∈◌, ◌⊆◌, ◌&◌, each, when}
 use Rattle.flow.specs.Rules.{carried, into_handler, into_leaving, own}
 use Rattle.slots.specs.Layout.{place_of}
+use Rattle.order.specs.Raised.{Raised}
 
 -- the first n of these slots have consecutive places, from place i on
 abbrev pub Consecutive : (ℕ → Slot) → ℕ → ℕ → Type 0
@@ -17,6 +18,10 @@ Consecutive s i n = (r : ℕ) → r < n → place_of (s r) ≡ i + r
 -- slot r of some flows into slot r of others
 abbrev pub each_into : (ℕ → Slot) → (ℕ → Slot) → ℕ → Flows
 each_into s t r = s r ⊆ t r
+
+-- n slots from one place on, whatever they are, flow into those from another
+abbrev pub RowsRaised : ℕ → ℕ → ℕ → Claim → Claim → Type 0
+RowsRaised from into n c d = (s t : ℕ → Slot) → Consecutive s from n → Consecutive t into n → Raised (each n (each_into s t)) c d
 
 -- zero goes into field x of class k, if the class has it
 abbrev pub zero_field : Program → ℕ → ℕ → Flows

@@ -9,8 +9,9 @@ ghost use Rattle.carry.specs.Carried.{class_fields, all_fields, all_statics};
 ghost use Rattle.order.specs.Raised.{Raised};
 ghost use Rattle.raise.specs.Inside.{zero_field};
 
-use crate::masks::one;
-use crate::words::{join_field, join_register, join_result, join_static, mark};
+use crate::words::{join, mark};
+use mask::Mask;
+use slots::Slot;
 
 // Zero into the registers of a method that hold no argument, and into its result.
 pub fn entry(t: &[u64; 768], w: &mut [u64; 9712], m: usize) -> u64
@@ -19,26 +20,22 @@ pub fn entry(t: &[u64; 768], w: &mut [u64; 9712], m: usize) -> u64
         let d = claim_in w.new in
         (Formed p → m < method_count p → Raised (entry p m) c d) }
 {
-    let n = carry::locals(t, m);
-    let mut r: usize = 0;
-    while r < n {
-        join_register(&mut *w, m, 0, r, one(62));
-        r += 1;
+    for r in 0..carry::locals(t, m) {
+        join(&mut *w, Slot::Register(m, 0, r), Mask::of(62));
     }
-    mark(join_result(w, m, 0, one(62)), 0)
+    mark(join(w, Slot::Result(m, 0), Mask::of(62)), 0)
 }
 
 // Zero into field x of class k, if the class has it.
-fn field_of(t: &[u64; 768], w: &mut [u64; 9712], k: usize, x: usize) -> u64
+fn field_of(t: &[u64; 768], w: &mut [u64; 9712], k: usize, x: usize)
     ensures raised { let p = program_in t.now in
         let c = claim_in w.old in
         let d = claim_in w.new in
         (Formed p → k < class_count p → Raised (zero_field p k x) c d) }
 {
     if search::has_field(t, k, x) {
-        return join_field(w, k, x, one(62));
+        join(w, Slot::Field(k, x), Mask::of(62));
     }
-    0
 }
 
 // Zero into the fields of class k.
@@ -48,11 +45,8 @@ fn fields_of(t: &[u64; 768], w: &mut [u64; 9712], k: usize)
         let d = claim_in w.new in
         (Formed p → k < class_count p → Raised (class_fields p k) c d) }
 {
-    let n = program::field_count(t);
-    let mut x: usize = 0;
-    while x < n {
+    for x in 0..program::field_count(t) {
         field_of(t, &mut *w, k, x);
-        x += 1;
     }
 }
 
@@ -62,11 +56,8 @@ fn all_fields(t: &[u64; 768], w: &mut [u64; 9712])
         let d = claim_in w.new in
         (Formed p → Raised (all_fields p) c d) }
 {
-    let n = program::class_count(t);
-    let mut k: usize = 0;
-    while k < n {
+    for k in 0..program::class_count(t) {
         fields_of(t, &mut *w, k);
-        k += 1;
     }
 }
 
@@ -76,11 +67,8 @@ fn all_statics(t: &[u64; 768], w: &mut [u64; 9712])
         let d = claim_in w.new in
         (Formed p → Raised (all_statics p) c d) }
 {
-    let n = program::static_count(t);
-    let mut x: usize = 0;
-    while x < n {
-        join_static(&mut *w, x, one(62));
-        x += 1;
+    for x in 0..program::static_count(t) {
+        join(&mut *w, Slot::Static(x), Mask::of(62));
     }
 }
 

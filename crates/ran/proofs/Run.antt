@@ -6,6 +6,7 @@ use Prim.Native.Nat.{ℕ, zero, suc, ◌≤◌, ◌<◌}
 use native.Mathlib.Omega.{arith}
 use lib.Dec.{ltb}
 use borrow.Author.Tests.{ltb-true}
+use Rattle.std.specs.Prelude.{None, is_none}
 use Rattle.text.proofs.Cases.{both_true}
 use Rattle.program.specs.Tables.{program_in}
 use Rattle.reader.specs.Formed.{Formed}
@@ -20,7 +21,7 @@ use Rattle.shift.specs.declared.Run.{Run}
 use Rattle.shift.specs.declared.Stop.TheVariants as stop
 use Rattle.shift.specs.declared.Stay.{Stay}
 use Rattle.shift.specs.declared.At as shift
-use Rattle.shift.specs.Stay.{is_went, is_open, again_left, at_of, is_running, is_no, runs_on}
+use Rattle.shift.specs.Stay.{is_went, is_open, again_left, at_of, is_running, runs_on}
 use Rattle.shift.specs.Shift.{stopped}
 use Rattle.drive.specs.Models.{Lent, Done, done, looped}
 use Rattle.turns.specs.Turns.{new_done, applied, executed}
@@ -46,7 +47,7 @@ module _ (t : List ℕ) (formed : Formed (program_in t)) (before : Lent) (roomy 
   module _ (s : State) where
     -- ---- a round
     -- an instruction that does not stay in its frame, or raises a new object, by what then lies in the slices
-    by_shift : (k : Run) → k.stop ≡ stop.No → (left top m pc : ℕ) (h : How) (now : Lent) → is_went h ≡ false
+    by_shift : (k : Run) → k.stop ≡ None → (left top m pc : ℕ) (h : How) (now : Lent) → is_went h ≡ false
         → (w : Here (program_in t) n s before k.tally (stay left top m pc h) now h) → (d : List ℕ → Lent → shift.At → Done Run)
         → (Come (program_in t) w.frame (at_of (program_in t) k (stay left top m pc h))
         → Shifted (program_in t) w.going.state before now (at_of (program_in t) k (stay left top m pc h)).run
@@ -67,7 +68,7 @@ module _ (t : List ℕ) (formed : Formed (program_in t)) (before : Lent) (roomy 
         (lies come)
 
     -- what comes after the steps that stay in the frame, by how the last one ended
-    by_how : (k : Run) → k.stop ≡ stop.No → (left top m pc : ℕ) (h : How) (now : Lent)
+    by_how : (k : Run) → k.stop ≡ None → (left top m pc : ℕ) (h : How) (now : Lent)
         → PausedBy (program_in t) n s before k.tally (stay left top m pc h) now h
         → Rounded (program_in t) n s before (executed t now (at_of (program_in t) k (stay left top m pc h)))
     by_how k e left top m pc Went now w =
@@ -94,7 +95,7 @@ module _ (t : List ℕ) (formed : Formed (program_in t)) (before : Lent) (roomy 
         (goes_on (program_in t) n _ s before k.tally now
         (as_many (program_in t) n (suc left) s before k.tally now w.going (again_left left (Failed f)) again) formed (omega (arith, again)) _ now fails.0 fails.1)
 
-    module _ (k : Run) (now : Lent) (free : k.stop ≡ stop.No) (more : 0 < k.left) (g : Going (program_in t) n k.left s before k.tally now) where
+    module _ (k : Run) (now : Lent) (free : k.stop ≡ None) (more : 0 < k.left) (g : Going (program_in t) n k.left s before k.tally now) where
       forth : k.tally.status ≡ status.Running → Rounded (program_in t) n s before (forth_done t now k)
       unfolding forth_done
       forth run =
@@ -119,8 +120,8 @@ module _ (t : List ℕ) (formed : Formed (program_in t)) (before : Lent) (roomy 
     -- a round of a run that goes on
     on : (k : Run) (now : Lent) → Rounded (program_in t) n s before (done k now) → runs_on k ≡ true → Rounded (program_in t) n s before (round_done t now k)
     on k now r e =
-        let live = both_true (is_no k.stop && ltb 0 k.left) (is_open k.tally.status) e in
-        let free = both_true (is_no k.stop) (ltb 0 k.left) live.0 in
+        let live = both_true (is_none k.stop && ltb 0 k.left) (is_open k.tally.status) e in
+        let free = both_true (is_none k.stop) (ltb 0 k.left) live.0 in
         rounded k now (no_stop k.stop free.0)
         (ltb-true 0 k.left free.1)
         r.going

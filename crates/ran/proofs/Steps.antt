@@ -4,6 +4,7 @@ use mathlib.Core.Bool.{false}
 use mathlib.Core.Option.{none, some}
 use Prim.Native.Nat.{ℕ, suc, ◌-◌, ◌<◌}
 use native.Mathlib.Omega.{arith}
+use Rattle.std.specs.Prelude.{None}
 use Rattle.text.proofs.Cases.{never}
 use Rattle.program.specs.Program.{Program}
 use Rattle.reader.specs.Formed.{Formed}
@@ -20,7 +21,6 @@ use Rattle.turn.specs.Stop.{stop_of}
 use Rattle.bounded.specs.Bounded.{at_limit, continued, steps}
 use Rattle.bounded.proofs.Stops.{ended_stops}
 use Rattle.shift.specs.declared.Run.{Run}
-use Rattle.shift.specs.declared.Stop.TheVariants as stop
 use Rattle.shift.specs.Stay.{is_open}
 use Rattle.drive.specs.Models.{Lent}
 use Rattle.lies.specs.Lies.{status_of, Lies}
@@ -108,14 +108,14 @@ module _ (p : Program) (n : ℕ) (s : State) (before : Lent) (k : Run) (now : Le
   pub at_stop : 0 < k.left → stop_of p g.state ≡ some (halt_of k) → Finished (steps p n 0 s) before n k now
   at_stop l e = finished (halt_of k) refl (stops p n k.left s before k.tally now g l (halt_of k) e)
 
-  limit : k.stop ≡ stop.No → halt_of k ≡ at_limit g.state.status
+  limit : k.stop ≡ None → halt_of k ≡ at_limit g.state.status
   limit free = rw free (end_same k.tally.status ∙ ap at_limit g.lies.status)
 
   -- n steps are made
-  pub at_limit_lem : k.stop ≡ stop.No → k.left ≡ 0 → Finished (steps p n 0 s) before n k now
+  pub at_limit_lem : k.stop ≡ None → k.left ≡ 0 → Finished (steps p n 0 s) before n k now
   at_limit_lem free l = finished (at_limit g.state.status) (limit free) (ends p n k.left s before k.tally now g l)
 
   -- the run has ended
-  pub at_end : k.stop ≡ stop.No → 0 < k.left → is_open k.tally.status ≡ false → Finished (steps p n 0 s) before n k now
+  pub at_end : k.stop ≡ None → 0 < k.left → is_open k.tally.status ≡ false → Finished (steps p n 0 s) before n k now
   at_end free l closed =
       at_stop l (ended_stops p g.state (rw (sym g.lies.status) (end_closed k.tally.status closed)) ∙ ap some (sym (limit free)))

@@ -1,6 +1,6 @@
 -- What holds of the stepper's run before each turn of its loops and after the last one. Nothing here needs to be believed to read a
 -- promise of the stepper. Definitions only.
-use Rattle.std.specs.Prelude.{◌≡◌, false, List, ◌∷◌, ℕ, suc, ◌<◌, length}
+use Rattle.std.specs.Prelude.{◌≡◌, is_none, false, List, ◌∷◌, ℕ, suc, ◌<◌, length}
 use Rattle.std.proofs.Math.Option.{some}
 use Rattle.program.specs.Program.{Program}
 use Rattle.machine.specs.State.{Frame, State, running}
@@ -12,7 +12,6 @@ use Rattle.site.specs.declared.How.{How}
 use Rattle.site.specs.declared.How.TheVariants.{Went, Leaves, Raises, Failed}
 use Rattle.shift.specs.declared.Run.{Run}
 use Rattle.shift.specs.declared.Stay.{Stay}
-use Rattle.shift.specs.Stay.{is_no}
 use Rattle.drive.specs.Models.{Lent, Done}
 use Rattle.lies.specs.Staying.{LeftBy}
 use Rattle.ran.specs.Ran.{Going}
@@ -61,4 +60,4 @@ NextBy p n s before t d (Failed e) = Here p n s before t d.result d.memory (Fail
 -- before and after a round: what stopped the run, if anything did, stops the state's next step
 pub record Rounded (p : Program) (n : ℕ) (s : State) (before : Lent) (r : Done Run) : Type 0 where
   pub going : Going p n r.result.left s before r.result.tally r.memory
-  pub stops : is_no r.result.stop ≡ false → (0 < r.result.left) × (stop_of p going.state ≡ some (halt_of r.result))
+  pub stops : is_none r.result.stop ≡ false → (0 < r.result.left) × (stop_of p going.state ≡ some (halt_of r.result))

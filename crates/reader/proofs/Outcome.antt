@@ -13,10 +13,11 @@ use Rattle.program.proofs.Tables.{program_of_tables}
 use Rattle.marks.specs.declared.Stop.{Stop}
 use Rattle.marks.specs.Marks.{marks, first_mark}
 use Rattle.marks.proofs.Clear.{mark_numbers}
-use Rattle.reader.specs.declared.Answer.{Answer}
-use Rattle.reader.specs.declared.Answer.TheVariants.{Read, TooLong}
-use Rattle.reader.specs.Read.{Reading, refused, taken, judged, valued, read_program, reading_number, reading_values, tables_after, number_of, values_of}
-use Rattle.reader.specs.Inside.{Walked, answer_of}
+use Rattle.std.specs.Prelude.{Result, Ok, Err, ⊤}
+use Rattle.reader.specs.declared.Refusal.{Refusal}
+use Rattle.reader.specs.declared.Refusal.TheVariants.{TooLong}
+use Rattle.reader.specs.Read.{Reading, refused, taken, judged, valued, read_program, reading_number, reading_values, tables_after, refusal_number, refusal_line, number_of, values_of}
+use Rattle.reader.specs.Inside.{Walked, refusal_of}
 use Rattle.reader.proofs.Numbers.{Numbered}
 use Rattle.reader.proofs.Turn.{whole_reading}
 
@@ -24,29 +25,29 @@ use Rattle.reader.proofs.Turn.{whole_reading}
 abbrev pub Tables : Reading → List ℕ → Type 0
 Tables x after = (p : Program) → x ≡ taken p → after ≡ tables_of p
 
-abbrev pub Told : List ℕ → List ℕ → Answer → Type 0
+abbrev pub Told : List ℕ → List ℕ → Result ⊤ Refusal → Type 0
 Told text after a =
     ((number_of a ≡ reading_number (read_program text)) × (values_of a ≡ reading_values (read_program text))) × Tables (read_program text) after
 
--- each number has its answer
-answer_of_lem : (number line : ℕ) → 2 ≤ number → number ≤ 6
-    → (number_of (answer_of number line) ≡ number) × (values_of (answer_of number line) ≡ line ∷ [])
-answer_of_lem zero line low high = absurd (omega arith)
-answer_of_lem (suc zero) line low high = absurd (omega arith)
-answer_of_lem (suc (suc zero)) line low high = (refl, refl)
-answer_of_lem (suc (suc (suc zero))) line low high = (refl, refl)
-answer_of_lem (suc (suc (suc (suc zero)))) line low high = (refl, refl)
-answer_of_lem (suc (suc (suc (suc (suc zero))))) line low high = (refl, refl)
-answer_of_lem (suc (suc (suc (suc (suc (suc zero)))))) line low high = (refl, refl)
-answer_of_lem (suc (suc (suc (suc (suc (suc (suc n))))))) line low high = absurd (omega arith)
+-- each number has its refusal
+refusal_of_lem : (number line : ℕ) → 2 ≤ number → number ≤ 6
+    → (refusal_number (refusal_of number line) ≡ number) × (refusal_line (refusal_of number line) ≡ line)
+refusal_of_lem zero line low high = absurd (omega arith)
+refusal_of_lem (suc zero) line low high = absurd (omega arith)
+refusal_of_lem (suc (suc zero)) line low high = (refl, refl)
+refusal_of_lem (suc (suc (suc zero))) line low high = (refl, refl)
+refusal_of_lem (suc (suc (suc (suc zero)))) line low high = (refl, refl)
+refusal_of_lem (suc (suc (suc (suc (suc zero))))) line low high = (refl, refl)
+refusal_of_lem (suc (suc (suc (suc (suc (suc zero)))))) line low high = (refl, refl)
+refusal_of_lem (suc (suc (suc (suc (suc (suc (suc n))))))) line low high = absurd (omega arith)
 
-told_refused : (text after : List ℕ) (number line : ℕ) (a : Answer) → read_program text ≡ refused number line
-    → 2 ≤ number → number ≤ 6 → a ≡ answer_of number line → Told text after a
-told_refused text after number line a e low high f =
-    let r = answer_of_lem number line low high in
-    (rw (e, f) (r.0, r.1), λ p g. never (cc))
+told_refused : (text after : List ℕ) (number line : ℕ) (r : Refusal) → read_program text ≡ refused number line
+    → 2 ≤ number → number ≤ 6 → r ≡ refusal_of number line → Told text after (Err r)
+told_refused text after number line r e low high f =
+    let k = refusal_of_lem number line low high in
+    (rw (e, f) (k.0, ap (λ (n : ℕ). n ∷ []) k.1), λ p g. never (cc))
 
-pub told_long : (text after : List ℕ) → 65536 < length text → Told text after TooLong
+pub told_long : (text after : List ℕ) → 65536 < length text → Told text after (Err TooLong)
 unfolding read_program
 told_long text after h = rw (lt-ltb 65536 (length text) h) ((refl, refl), λ p g. never (cc))
 
@@ -80,8 +81,8 @@ module _ (text : List ℕ) (short : length text ≤ 65536) where
   unfolding read_program
   read_is = rw (le-ltb 65536 (length text) short)
 
-  pub told_order : (s : Stop) (ws : List ℕ) (a : Answer) → Walked (whole_reading text) s ws → (s.number ≡ 0 → ⊥)
-      → a ≡ answer_of s.number s.line → Told text ws a
+  pub told_order : (s : Stop) (ws : List ℕ) (r : Refusal) → Walked (whole_reading text) s ws → (s.number ≡ 0 → ⊥)
+      → r ≡ refusal_of s.number s.line → Told text ws (Err r)
   unfolding valued
   told_order s ws a w h f =
       let r = walk_refused (whole_reading text) s ws w h in
@@ -97,7 +98,7 @@ module _ (text : List ℕ) (short : length text ≤ 65536) where
         let m = mark_is p ws v g l f in
         (p, read_is ∙ ap valued e ∙ ap (judged p) (sym m), g, m)
 
-    pub told_values : (a : Answer) → (v.number ≡ 0 → ⊥) → a ≡ answer_of v.number v.line → Told text ws a
+    pub told_values : (r : Refusal) → (v.number ≡ 0 → ⊥) → r ≡ refusal_of v.number v.line → Told text ws (Err r)
     unfolding judged
     told_values a h g =
         let (p, r, _, m) = read_as in
@@ -106,7 +107,7 @@ module _ (text : List ℕ) (short : length text ≤ 65536) where
         (rw m k.1)
         g
 
-    pub told_read : v.number ≡ 0 → Told text ws Read
+    pub told_read : v.number ≡ 0 → Told text ws (Ok tt)
     unfolding judged
     told_read y =
         let (p, r, g, _) = read_as in

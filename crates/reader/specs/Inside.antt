@@ -8,8 +8,8 @@ use Rattle.program.specs.Tables.{Limited, tables_of}
 use Rattle.frame.specs.declared.Counts.{Counts}
 use Rattle.frame.specs.declared.Step.{Step}
 use Rattle.marks.specs.declared.Stop.{Stop}
-use Rattle.reader.specs.declared.Answer.{Answer}
-use Rattle.reader.specs.declared.Answer.TheVariants.{BadLine, BadFrame, OutOfOrder, BadValue, FallsThrough}
+use Rattle.reader.specs.declared.Refusal.{Refusal}
+use Rattle.reader.specs.declared.Refusal.TheVariants.{BadLine, BadFrame, OutOfOrder, BadValue, FallsThrough}
 use Rattle.frame.specs.Frame.{digits_of}
 use Rattle.reader.specs.Read.{Reading, refused, taken, line_kind, line_fields}
 
@@ -30,9 +30,9 @@ abbrev pub Walked : Reading → Stop → List ℕ → Type 0
 Walked (refused number line) s ws = (s.number ≡ number) × (s.line ≡ line) × (2 ≤ number) × (number ≤ 4)
 Walked (taken p) s ws = (s.number ≡ 0) × (ws ≡ tables_of p) × Limited p
 
--- the answer of a refusal's number, 2 to 6
-abbrev pub answer_of : ℕ → ℕ → Answer
-answer_of number line =
+-- the refusal of a number, 2 to 6
+abbrev pub refusal_of : ℕ → ℕ → Refusal
+refusal_of number line =
     pick (eqb number 2) (BadLine line)
     (pick (eqb number 3) (BadFrame line)
     (pick (eqb number 4) (OutOfOrder line) (pick (eqb number 5) (BadValue line) (FallsThrough line))))

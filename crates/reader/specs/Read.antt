@@ -1,13 +1,13 @@
 -- What a text says: a program, or a refusal with its number and line. Definitions only.
-use Rattle.std.specs.Prelude.{List, [], ◌∷◌, ℕ, ◌+◌, eqb, ltb, length, take, drop}
+use Rattle.std.specs.Prelude.{Result, Ok, Err, ⊤, List, [], ◌∷◌, ℕ, ◌+◌, eqb, ltb, length, take, drop}
 use Rattle.text.specs.Hex.{Line, lines_of, whole, number_of as hex_of}
 use Rattle.instruction.specs.Word.{pick}
 use Rattle.instruction.specs.Test.{passes}
 use Rattle.program.specs.Program.{Program, no_program}
 use Rattle.program.specs.Tables.{tables_of}
 use Rattle.frame.specs.declared.Kind.{Kind}
-use Rattle.reader.specs.declared.Answer.{Answer}
-use Rattle.reader.specs.declared.Answer.TheVariants.{Read, TooLong, BadLine, BadFrame, OutOfOrder, BadValue, FallsThrough}
+use Rattle.reader.specs.declared.Refusal.{Refusal}
+use Rattle.reader.specs.declared.Refusal.TheVariants.{TooLong, BadLine, BadFrame, OutOfOrder, BadValue, FallsThrough}
 use Rattle.marks.specs.declared.Stop.{Stop}
 use Rattle.frame.specs.Frame.{kind_of, digits_of, counts_of, may_stand, may_end, added}
 use Rattle.marks.specs.Marks.{marks, first_mark}
@@ -64,31 +64,33 @@ abbrev pub tables_after : Reading → List ℕ → List ℕ
 tables_after (refused number line) before = before
 tables_after (taken p) before = tables_of p
 
--- document 01's number of each answer, and its values
-abbrev pub number_of : Answer → ℕ
-number_of Read = 0
-number_of TooLong = 1
-number_of (BadLine line) = 2
-number_of (BadFrame line) = 3
-number_of (OutOfOrder line) = 4
-number_of (BadValue line) = 5
-number_of (FallsThrough line) = 6
+-- document 01's number of each refusal, and its line
+abbrev pub refusal_number : Refusal → ℕ
+refusal_number TooLong = 1
+refusal_number (BadLine line) = 2
+refusal_number (BadFrame line) = 3
+refusal_number (OutOfOrder line) = 4
+refusal_number (BadValue line) = 5
+refusal_number (FallsThrough line) = 6
 
-abbrev pub values_of : Answer → List ℕ
-values_of Read = []
-values_of TooLong = 0 ∷ []
-values_of (BadLine line) = line ∷ []
-values_of (BadFrame line) = line ∷ []
-values_of (OutOfOrder line) = line ∷ []
-values_of (BadValue line) = line ∷ []
-values_of (FallsThrough line) = line ∷ []
+abbrev pub refusal_line : Refusal → ℕ
+refusal_line TooLong = 0
+refusal_line (BadLine line) = line
+refusal_line (BadFrame line) = line
+refusal_line (OutOfOrder line) = line
+refusal_line (BadValue line) = line
+refusal_line (FallsThrough line) = line
+
+-- the number of what became of a text, 0 where it is read, and its values
+abbrev pub number_of : Result ⊤ Refusal → ℕ
+number_of (Ok done) = 0
+number_of (Err refusal) = refusal_number refusal
+
+abbrev pub values_of : Result ⊤ Refusal → List ℕ
+values_of (Ok done) = []
+values_of (Err refusal) = refusal_line refusal ∷ []
 
 -- the line of a refusal, 0 where there is none
-abbrev pub line_of : Answer → ℕ
-line_of Read = 0
-line_of TooLong = 0
-line_of (BadLine line) = line
-line_of (BadFrame line) = line
-line_of (OutOfOrder line) = line
-line_of (BadValue line) = line
-line_of (FallsThrough line) = line
+abbrev pub line_of : Result ⊤ Refusal → ℕ
+line_of (Ok done) = 0
+line_of (Err refusal) = refusal_line refusal

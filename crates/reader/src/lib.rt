@@ -5,18 +5,17 @@ ghost use Rattle.std.specs.Prelude.{◌≡◌, ℕ, ◌+◌, ◌≤◌, ◌<◌,
 ghost use Rattle.text.specs.Hex.{lines_of};
 ghost use Rattle.program.specs.Program.{Program, no_program};
 ghost use Rattle.program.specs.Tables.{tables_of};
-ghost use Rattle.reader.specs.Read.{taken, read_lines, read_program, reading_number, reading_values, tables_after, number_of, values_of, line_of};
-ghost use Rattle.reader.specs.Inside.{line_at, framed, framed_tables, Walked, answer_of};
+ghost use Rattle.reader.specs.Read.{taken, read_lines, read_program, reading_number, reading_values, tables_after, refusal_number, refusal_line, number_of, values_of, line_of};
+ghost use Rattle.reader.specs.Inside.{line_at, framed, framed_tables, Walked, refusal_of};
 
 use frame::{Counts, Step};
 use lines::Cursor;
 use marks::Stop;
 use text::LineRead;
 
-// What a text turned out to be. A refusal has its line; that of the length has line 0.
-#[derive(Clone, Copy)]
-pub enum Answer {
-    Read,
+// Why a program text is refused, and at which line; the length has line 0.
+#[derive(Clone, Copy, Debug, PartialEq, Eq)]
+pub enum Refusal {
     TooLong,
     BadLine(usize),
     BadFrame(usize),
@@ -25,33 +24,53 @@ pub enum Answer {
     FallsThrough(usize),
 }
 
-// Document 01's number of an answer, 0 for one that is no refusal.
-pub fn number_of(a: Answer) -> u8
-    ensures value { result ≡ number_of a }
-{
-    match a {
-        Answer::Read => 0,
-        Answer::TooLong => 1,
-        Answer::BadLine(line) => 2,
-        Answer::BadFrame(line) => 3,
-        Answer::OutOfOrder(line) => 4,
-        Answer::BadValue(line) => 5,
-        Answer::FallsThrough(line) => 6,
+impl Refusal {
+    // Document 01's number of a refusal.
+    pub fn number(self) -> u8
+        ensures value { result ≡ refusal_number self }
+    {
+        match self {
+            Self::TooLong => 1,
+            Self::BadLine(line) => 2,
+            Self::BadFrame(line) => 3,
+            Self::OutOfOrder(line) => 4,
+            Self::BadValue(line) => 5,
+            Self::FallsThrough(line) => 6,
+        }
+    }
+
+    // Its line.
+    pub fn line(self) -> usize
+        ensures value { result ≡ refusal_line self }
+    {
+        match self {
+            Self::TooLong => 0,
+            Self::BadLine(line) => line,
+            Self::BadFrame(line) => line,
+            Self::OutOfOrder(line) => line,
+            Self::BadValue(line) => line,
+            Self::FallsThrough(line) => line,
+        }
     }
 }
 
-// The line of an answer, 0 for one that is no refusal.
-pub fn line_of(a: Answer) -> usize
-    ensures value { result ≡ line_of a }
+// Document 01's number of what became of a text, 0 where it is read.
+pub fn number_of(read: Result<(), Refusal>) -> u8
+    ensures value { result ≡ number_of read }
 {
-    match a {
-        Answer::Read => 0,
-        Answer::TooLong => 0,
-        Answer::BadLine(line) => line,
-        Answer::BadFrame(line) => line,
-        Answer::OutOfOrder(line) => line,
-        Answer::BadValue(line) => line,
-        Answer::FallsThrough(line) => line,
+    match read {
+        Ok(()) => 0,
+        Err(refusal) => refusal.number(),
+    }
+}
+
+// The line of its refusal, 0 where it is read.
+pub fn line_of(read: Result<(), Refusal>) -> usize
+    ensures value { result ≡ line_of read }
+{
+    match read {
+        Ok(()) => 0,
+        Err(refusal) => refusal.line(),
     }
 }
 
@@ -113,63 +132,59 @@ fn walk(text: &[u8], t: &mut [u64; 768]) -> Stop
     }
 }
 
-// The answer of a refusal's number, 2 to 6.
-fn refusal(number: usize, line: usize) -> Answer
-    ensures value { result ≡ answer_of number line }
+// The refusal of a number, 2 to 6.
+fn refused_by(number: usize, line: usize) -> Refusal
+    ensures value { result ≡ refusal_of number line }
 {
     match number {
-        2 => Answer::BadLine(line),
-        3 => Answer::BadFrame(line),
-        4 => Answer::OutOfOrder(line),
-        5 => Answer::BadValue(line),
-        _ => Answer::FallsThrough(line),
+        2 => Refusal::BadLine(line),
+        3 => Refusal::BadFrame(line),
+        4 => Refusal::OutOfOrder(line),
+        5 => Refusal::BadValue(line),
+        _ => Refusal::FallsThrough(line),
     }
 }
 
 // Takes a program text into the tables of no program. Read: they hold the program.
-fn take(text: &[u8], t: &mut [u64; 768]) -> Answer
+fn take(text: &[u8], t: &mut [u64; 768]) -> Result<(), Refusal>
     requires { t.old ≡ tables_of no_program }
     ensures answer { (number_of result ≡ reading_number (read_program text.now)) × (values_of result ≡ reading_values (read_program text.now)) }
     ensures tables { (p : Program) → read_program text.now ≡ taken p → t.new ≡ tables_of p }
 {
     if 65536 < text.len() {
-        return Answer::TooLong;
+        return Err(Refusal::TooLong);
     }
     let order = walk(text, &mut *t);
     if order.number != 0 {
-        return refusal(order.number, order.line);
+        return Err(refused_by(order.number, order.line));
     }
     let value = marks::first_mark(t);
     if value.number != 0 {
-        return refusal(value.number, value.line);
+        return Err(refused_by(value.number, value.line));
     }
-    Answer::Read
+    Ok(())
 }
 
 // Reads a program text. Read: the tables hold the program. Refused: they are as they were.
-pub fn read(text: &[u8], t: &mut [u64; 768]) -> Answer
+pub fn read(text: &[u8], t: &mut [u64; 768]) -> Result<(), Refusal>
     ensures answer { (number_of result ≡ reading_number (read_program text.now)) × (values_of result ≡ reading_values (read_program text.now)) }
     ensures memory { t.new ≡ tables_after (read_program text.now) t.old }
 {
     let mut draft = [0u64; 768];
-    let answer = take(text, &mut draft);
-    if number_of(answer) != 0 {
-        return answer;
-    }
+    take(text, &mut draft)?;
     *t = draft;
-    answer
+    Ok(())
 }
 
 // The same without a draft, for tables of the caller's own. Refused: they are zero.
-pub fn fill(text: &[u8], t: &mut [u64; 768]) -> Answer
+pub fn fill(text: &[u8], t: &mut [u64; 768]) -> Result<(), Refusal>
     ensures answer { (number_of result ≡ reading_number (read_program text.now)) × (values_of result ≡ reading_values (read_program text.now)) }
     ensures memory { t.new ≡ tables_after (read_program text.now) (replicate 768 0) }
 {
     *t = [0u64; 768];
-    let answer = take(text, &mut *t);
-    if number_of(answer) == 0 {
-        return answer;
+    let read = take(text, &mut *t);
+    if read.is_err() {
+        *t = [0u64; 768];
     }
-    *t = [0u64; 768];
-    answer
+    read
 }

@@ -3,10 +3,12 @@
 
 mod run;
 
-ghost use Rattle.std.specs.Prelude.{◌≡◌, List, ◌++◌, ℕ, ◌≤◌, ◌<◌, length, get_or};
-ghost use Rattle.page.specs.Page.{Put, filled, filled_count};
-ghost use Rattle.report.specs.Printed.{three, call_line, call_lines, violated_word, refused_line, printed};
+ghost use Rattle.std.specs.Prelude.{◌≡◌, List, ◌++◌, ℕ, ◌<◌, length, get_or};
+ghost use Rattle.page.specs.OnPage.{PutOn};
+ghost use Rattle.page.specs.Page.{filled, filled_count};
+ghost use Rattle.report.specs.Printed.{three, call_line, violated_word, refused_line, printed};
 
+use page::Page;
 pub use run::write_run;
 use verdict::Verdict;
 
@@ -14,104 +16,88 @@ use verdict::Verdict;
 pub const LONGEST: usize = 73737;
 
 // Puts three numbers of two digits, and the line end.
-fn put_three(out: &mut [u8], at: usize, a: usize, b: usize, c: usize) -> usize
-    ensures put { Put out.old at (three a b c) out.new result }
+fn put_three(page: &mut Page<'_>, a: usize, b: usize, c: usize)
+    ensures put { PutOn page.old (three a b c) page.new }
 {
-    let first = page::put_two(&mut *out, at, a);
-    let second = page::put_byte(&mut *out, first, b' ');
-    let third = page::put_two(&mut *out, second, b);
-    let fourth = page::put_byte(&mut *out, third, b' ');
-    let last = page::put_two(&mut *out, fourth, c);
-    page::put_byte(&mut *out, last, b'\n')
+    page.two(a);
+    page.byte(b' ');
+    page.two(b);
+    page.byte(b' ');
+    page.two(c);
+    page.byte(b'\n');
 }
 
 // A byte of memory, 0 past its end.
 fn byte_at(memory: &[u8], i: usize) -> usize
     ensures value { result ≡ get_or memory.now i 0 }
 {
-    if i < memory.len() {
-        memory[i] as usize
-    } else {
-        0
-    }
+    memory.get(i).copied().unwrap_or(0) as usize
 }
 
 // Puts the line of call i.
-fn put_call(memory: &[u8], i: usize, out: &mut [u8], at: usize) -> usize
+fn put_call(page: &mut Page<'_>, memory: &[u8], i: usize)
     requires { i < 8192 }
-    ensures put { Put out.old at (call_line memory.now i) out.new result }
+    ensures put { PutOn page.old (call_line memory.now i) page.new }
 {
     let caller = byte_at(memory, 3 * i);
     let address = byte_at(memory, 3 * i + 1);
     let callee = byte_at(memory, 3 * i + 2);
-    put_three(out, at, caller, address, callee)
-}
-
-// Puts the lines of the first calls.
-fn put_calls(memory: &[u8], count: usize, out: &mut [u8], at: usize) -> usize
-    requires { count ≤ 8192 }
-    ensures put { Put out.old at (call_lines memory.now count) out.new result }
-{
-    let mut next = at;
-    let mut i = 0;
-    while i < count {
-        next = put_call(memory, i, &mut *out, next);
-        i += 1;
-    }
-    next
-}
-
-// Puts the word, a number and its line.
-fn put_refused(number: usize, line: usize, out: &mut [u8]) -> usize
-    ensures put { Put out.old 0 (refused_line number line) out.new result }
-{
-    let first = page::put(&mut *out, 0, b"refused ");
-    let second = page::put_two(&mut *out, first, number);
-    let third = page::put_byte(&mut *out, second, b' ');
-    let end = page::put_eight(&mut *out, third, line);
-    page::put_byte(&mut *out, end, b'\n')
+    put_three(page, caller, address, callee);
 }
 
 // Puts the word and the lines of calls.
-fn put_accepted(calls: usize, memory: &[u8], out: &mut [u8]) -> usize
-    ensures put { Put out.old 0 (printed (Verdict.Accepted calls) memory.now) out.new result }
+fn put_accepted(page: &mut Page<'_>, calls: usize, memory: &[u8])
+    ensures put { PutOn page.old (printed (Verdict.Accepted calls) memory.now) page.new }
 {
-    let next = page::put(&mut *out, 0, b"accepted\n");
-    put_calls(memory, program::at_most(calls, 8192), &mut *out, next)
+    page.put(b"accepted\n");
+    for i in 0..calls.min(8192) {
+        put_call(page, memory, i);
+    }
+}
+
+// Puts the word, a number and its line.
+fn put_refused(page: &mut Page<'_>, number: usize, line: usize)
+    ensures put { PutOn page.old (refused_line number line) page.new }
+{
+    page.put(b"refused ");
+    page.two(number);
+    page.byte(b' ');
+    page.eight(line);
+    page.byte(b'\n');
 }
 
 // Puts the word, the rule and its place.
-fn put_violated(rule: usize, method: usize, address: usize, out: &mut [u8]) -> usize
-    ensures put { Put out.old 0 (violated_word ++ three rule method address) out.new result }
+fn put_violated(page: &mut Page<'_>, rule: usize, method: usize, address: usize)
+    ensures put { PutOn page.old (violated_word ++ three rule method address) page.new }
 {
-    let next = page::put(&mut *out, 0, b"violated ");
-    put_three(&mut *out, next, rule, method, address)
+    page.put(b"violated ");
+    put_three(page, rule, method, address);
 }
 
-fn put_verdict(v: Verdict, memory: &[u8], out: &mut [u8]) -> usize
-    ensures put { Put out.old 0 (printed v memory.now) out.new result }
+fn put_verdict(page: &mut Page<'_>, v: Verdict, memory: &[u8])
+    ensures put { PutOn page.old (printed v memory.now) page.new }
 {
     match v {
-        Verdict::Accepted(count) => put_accepted(count, memory, out),
+        Verdict::Accepted(count) => put_accepted(page, count, memory),
         Verdict::Violated {
             rule,
             method,
             address,
-        } => put_violated(rule, method, address, out),
-        Verdict::Refused { number, line } => put_refused(number, line, out),
-        Verdict::Short => put_refused(23, 0, out),
+        } => put_violated(page, rule, method, address),
+        Verdict::Refused { number, line } => put_refused(page, number, line),
+        Verdict::Short => put_refused(page, 23, 0),
     }
 }
 
 // How many bytes a verdict prints.
+#[tactic(auto, using(crate::proofs::Calls::accepted_length))]
 fn size_of(v: Verdict) -> usize
     ensures value { (memory : List ℕ) → result ≡ length (printed v memory) }
 {
     match v {
-        Verdict::Accepted(count) => 9 + 9 * program::at_most(count, 8192),
+        Verdict::Accepted(count) => 9 + 9 * count.min(8192),
         Verdict::Violated { .. } => 18,
-        Verdict::Refused { .. } => 20,
-        Verdict::Short => 20,
+        Verdict::Refused { .. } | Verdict::Short => 20,
     }
 }
 
@@ -124,5 +110,7 @@ pub fn write(v: Verdict, memory: &[u8], out: &mut [u8]) -> usize
     if out.len() < size_of(v) {
         return 0;
     }
-    put_verdict(v, memory, out)
+    let mut page = Page { out, at: 0 };
+    put_verdict(&mut page, v, memory);
+    page.at
 }

@@ -23,28 +23,13 @@ pub struct Response {
     pub told: usize,
 }
 
-// More bytes than the checker takes of a claim.
-fn long_claim() -> [u8; 262145]
-    ensures length { 262145 ≡ length result }
-{
-    [0; 262145]
-}
-
-// The memory that is lent to the checker.
-fn lent() -> [u8; 24576]
-    ensures length { 24576 ≡ length result }
-{
-    [0; 24576]
-}
-
 // The verdict on a claim that the checker finds too long.
 fn judge_long(panel: &[u8], memory: &mut [u8]) -> Verdict
     requires { 24576 ≡ length memory.old }
     ensures verdict { result ≡ answer_for (longer (read_program panel.now)) }
     ensures memory { memory.new ≡ memory_after (longer (read_program panel.now)) memory.old }
 {
-    let claim = long_claim();
-    checker::check(panel, &claim, memory)
+    checker::check(panel, &[0; 262145], memory)
 }
 
 // The verdict. A claim of more than 65,536 bytes is too long.
@@ -54,9 +39,10 @@ fn judge(panel: &[u8], claim: &[u8], memory: &mut [u8]) -> Verdict
     ensures memory { memory.new ≡ memory_after (checking_of panel.now claim.now) memory.old }
 {
     if claim.len() <= 65536 {
-        return checker::check(panel, claim, memory);
+        checker::check(panel, claim, memory)
+    } else {
+        judge_long(panel, memory)
     }
-    judge_long(panel, memory)
 }
 
 // Writes what is printed for the texts of a panel and a claim to the front of out, nothing where it does not fit, and what is told
@@ -82,7 +68,7 @@ pub fn of_claim(
         ((lines : List ℕ) → printed ≡ accepted_word ++ lines
         → Coverage panel.now claim.now (calls_said lines)) }
 {
-    let mut memory = lent();
+    let mut memory = [0u8; 24576];
     let v = judge(panel, claim, &mut memory);
     let printed = report::write(v, &memory, out);
     let told = words::tell(v, table, line);

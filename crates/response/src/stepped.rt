@@ -7,33 +7,13 @@ ghost use Rattle.response.specs.Stepped.{run_said, run_told_for};
 use crate::Response;
 use bounded::Outcome;
 
-// Memory for 32 frames, 256 objects and 16 statics.
-fn frames() -> [u64; 608]
-    ensures length { 608 ≡ length result }
-{
-    [0; 608]
-}
-
-fn objects() -> [u64; 4352]
-    ensures length { 4352 ≡ length result }
-{
-    [0; 4352]
-}
-
-fn statics() -> [u64; 16]
-    ensures length { 16 ≡ length result }
-{
-    [0; 16]
-}
-
 // The number of the top frame, 0 where none is open.
 fn top_of(o: Outcome) -> u8
     ensures value { result ≡ top_of o }
 {
     match o {
-        Outcome::Ran { frames, .. } => { if frames == 0 { 0 } else { frames - 1 } }
-        Outcome::Refused { .. } => 0,
-        Outcome::Short => 0,
+        Outcome::Ran { frames, .. } => frames.saturating_sub(1),
+        Outcome::Refused { .. } | Outcome::Short => 0,
     }
 }
 
@@ -50,9 +30,9 @@ pub fn of_run(panel: &[u8], n: u64, table: &[u8], out: &mut [u8], line: &mut [u8
         (200 ≤ length line.old → result.told ≡ length x) }
 {
     let mut t = [0u64; 768];
-    let mut fs = frames();
-    let mut os = objects();
-    let mut ss = statics();
+    let mut fs = [0u64; 608]; // 32 frames
+    let mut os = [0u64; 4352]; // 256 objects
+    let mut ss = [0u64; 16]; // 16 statics
     let o = plain::step_in(panel, n, &mut t, &mut fs, &mut os, &mut ss);
     let printed = report::write_run(o, &t, &fs, &os, &ss, out);
     let place = memory::place_of(&fs, top_of(o));

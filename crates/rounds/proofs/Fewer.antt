@@ -5,14 +5,11 @@ use mathlib.Core.List.{List}
 use Prim.Native.Nat.{ℕ, suc, ◌+◌, ◌≤◌, ◌<◌}
 use native.Mathlib.Omega.{arith}
 use lib.Dec.{T as Holds, eqb, ltb, leb, ltb→lt, lt→ltb}
+use Rattle.std.specs.Prelude.{Option, Some, None, is_none}
 use Rattle.instruction.specs.Word.{pick}
 use Rattle.arithmetic.specs.Arithmetic.{is_zero}
 use Rattle.program.specs.Program.{Program, code_length, null_class}
 use Rattle.program.specs.Tables.{program_in}
-use Rattle.search.specs.declared.Callee.{Callee}
-use Rattle.search.specs.declared.Callee.TheVariants.{Found, Missing}
-use Rattle.search.specs.declared.Handling.{Handling}
-use Rattle.search.specs.declared.Handling.TheVariants as handling
 use Rattle.search.specs.Search.{below, virtual_callee, handler_for}
 use Rattle.machine.specs.declared.Effect.{Effect}
 use Rattle.machine.specs.declared.Effect.TheVariants.{Make, Call, Raise, RaiseNew, Fail}
@@ -34,15 +31,14 @@ use Rattle.shift.specs.declared.At.{At}
 use Rattle.shift.specs.declared.Run.{Run}
 use Rattle.shift.specs.declared.Shift.{Shift}
 use Rattle.shift.specs.declared.Stop.TheVariants as stop
+use Rattle.shift.specs.Kinds.{Shifting, make_shifting, new_shifting, static_shifting, virtual_shifting, leave_shifting, throw_shifting, unwind_shifting}
 use Rattle.shift.specs.Places.{top_of}
 use Rattle.shift.specs.Shift.{tallied, counted, stopped, with_status, leaving, only, grown_by, shifted, pending_of, unwound_by, handled}
 use Rattle.shift.specs.Shift.{unwound}
-use Rattle.shift.specs.Stay.{is_leaves, is_raises, raised_class, is_open, is_no, runs_on, exits_of, others_by, others_of}
-use Rattle.drive.specs.Models.{Lent, Done, done}
+use Rattle.shift.specs.Stay.{is_leaves, is_raises, raised_class, is_open, runs_on, exits_of, others_by}
+use Rattle.drive.specs.Models.{Lent, Done}
 use Rattle.turns.specs.Turns as turns
-use Rattle.turns.specs.Turns.{Shifting, shift_in, shift_done, make_shifting, static_shifting, virtual_shifting, leave_shifting, throw_shifting}
-use Rattle.turns.specs.Turns.{unwind_shifting, make_done, static_done, virtual_done, leave_done, throw_done, from_throw, from_exit, from_virtual}
-use Rattle.turns.specs.Turns.{applied, executed, unwind_done, new_shifting, new_done, from_raises}
+use Rattle.turns.specs.Turns.{shift_in, shift_done, unwind_done, applied, executed}
 use Rattle.rounds.specs.Rounds.{turns_of}
 
 -- both of two tests that pass together
@@ -55,7 +51,7 @@ few : (k : Run) (n : ℕ) → (0 < k.left → k.left < n) → turns_of k ≤ n
 few k n h =
     pick_cases (λ i. i ≤ n) (runs_on k) (suc k.left) 0
     (λ e.
-    h (ltb→lt 0 k.left (both (is_no k.stop) (ltb 0 k.left) (both (is_no k.stop && ltb 0 k.left) (is_open k.tally.status) (rw e tt)).0).1))
+    h (ltb→lt 0 k.left (both (is_none k.stop) (ltb 0 k.left) (both (is_none k.stop && ltb 0 k.left) (is_open k.tally.status) (rw e tt)).0).1))
     (λ _. omega arith)
 
 module _ (p : Program) (h : At) (b n : ℕ) (l : h.run.left ≤ n) where
@@ -91,9 +87,9 @@ module _ (p : Program) (h : At) (b n : ℕ) (l : h.run.left ≤ n) where
   no_object_few true = raise_few null_class
   no_object_few false = status_few (Failed NumberAsObject)
 
-  callee_few : (q : Callee) (c : ℕ) → Few (call_of q c)
-  callee_few (Found m) c = call_few m c
-  callee_few Missing c = status_few (Failed NoMethod)
+  callee_few : (q : Option ℕ) (c : ℕ) → Few (call_of q c)
+  callee_few (Some m) c = call_few m c
+  callee_few None c = status_few (Failed NoMethod)
 
   virtual_few : (k name count c : ℕ) (v : machine.Value) → Few (virtual_call p k name count c v)
   virtual_few k name count c (Number z) = no_object_few (is_zero z)
@@ -104,9 +100,9 @@ module _ (p : Program) (h : At) (b n : ℕ) (l : h.run.left ≤ n) where
   throw_few k (Reference o) =
       pick_cases Few (below p k 1) (Raise o) (Fail NotThrowable) (λ _. status_few (Raised o)) (λ _. status_few (Failed NotThrowable))
 
-  handled_few : (o m : ℕ) (e : Handling) → turns_of (unwound_by p h o m e).run ≤ n
-  handled_few o m (handling.Caught j) = status_few Running
-  handled_few o m handling.Uncaught = leaving_few (Uncaught o) (Raised o)
+  handled_few : (o m : ℕ) (e : Option ℕ) → turns_of (unwound_by p h o m e).run ≤ n
+  handled_few o m (Some j) = status_few Running
+  handled_few o m None = leaving_few (Uncaught o) (Raised o)
 
   unwound_few : (m a c : ℕ) → turns_of (unwound p h m a c).run ≤ n
   unwound_few m a c =
@@ -135,39 +131,31 @@ module _ (t : List ℕ) (m : Lent) (h : At) (n : ℕ) (l : h.run.left ≤ n) whe
   unfolding shift_done
   shift_few w e = e
 
-  throws_few : Ends (from_throw t m h)
-  throws_few =
-      pick_cases Ends (eqb h.opcode 18) (throw_done t m h) (make_done t m h)
-      (λ _. shift_few throw_shifting (throw_few (program_in t) h (turns.below_in m h) n l (turns.class_in m h) (value_of (turns.value_in m h))))
-      (λ _. shift_few make_shifting (make_few (program_in t) h (turns.below_in m h) n l (a_of h.word) (b_of h.word)))
-
-  exits_few : Ends (from_exit t m h)
-  exits_few =
-      pick_cases Ends (exits_of h) (leave_done t m h) (from_throw t m h) (λ _. shift_few leave_shifting (leaving_few (program_in t) h 0 n l status.Done Running)) (λ _. throws_few)
-
-  virtuals_few : Ends (from_virtual t m h)
-  virtuals_few =
-      pick_cases Ends (eqb h.opcode 12) (virtual_done t m h) (from_exit t m h)
+  applied_few : Ends (applied t m h)
+  applied_few =
+      pick_cases Ends (eqb h.opcode 13) _ _
+      (λ _. shift_few static_shifting (call_few (program_in t) h (turns.below_in m h) n l (a_of h.word) (c_of h.word)))
+      (λ _.
+      pick_cases Ends (eqb h.opcode 12) _ _
       (λ _.
       shift_few virtual_shifting
       (virtual_few (program_in t) h (turns.below_in m h) n l (turns.class_in m h) (a_of h.word) (b_of h.word) (c_of h.word)
       (value_of (turns.value_in m h))))
-      (λ _. exits_few)
-
-  applied_few : Ends (applied t m h)
-  applied_few =
-      pick_cases Ends (eqb h.opcode 13) (static_done t m h) (from_virtual t m h)
-      (λ _. shift_few static_shifting (call_few (program_in t) h (turns.below_in m h) n l (a_of h.word) (c_of h.word)))
-      (λ _. virtuals_few)
-
-  raises_few : Ends (from_raises t m h)
-  raises_few =
-      pick_cases Ends (is_raises h.how) (new_done t m h) (done (others_of h) m)
-      (λ _. shift_few new_shifting (raise_few (program_in t) h (turns.below_in m h) n l (raised_class h.how)))
-      (λ _. failed_few (program_in t) h 0 n l h.how)
+      (λ _.
+      pick_cases Ends (exits_of h) _ _
+      (λ _. shift_few leave_shifting (leaving_few (program_in t) h 0 n l status.Done Running))
+      (λ _.
+      pick_cases Ends (eqb h.opcode 18) _ _
+      (λ _. shift_few throw_shifting (throw_few (program_in t) h (turns.below_in m h) n l (turns.class_in m h) (value_of (turns.value_in m h))))
+      (λ _. shift_few make_shifting (make_few (program_in t) h (turns.below_in m h) n l (a_of h.word) (b_of h.word))))))
 
   pub executed_few : turns_of (executed t m h).result ≤ n
-  executed_few = pick_cases Ends (is_leaves h.how) (applied t m h) (from_raises t m h) (λ _. applied_few) (λ _. raises_few)
+  executed_few =
+      pick_cases Ends (is_leaves h.how) _ _ (λ _. applied_few)
+      (λ _.
+      pick_cases Ends (is_raises h.how) _ _
+      (λ _. shift_few new_shifting (raise_few (program_in t) h (turns.below_in m h) n l (raised_class h.how)))
+      (λ _. failed_few (program_in t) h 0 n l h.how))
 
   pub unwind_few : turns_of (unwind_done t m h).result ≤ n
   unwind_few = shift_few unwind_shifting (unwound_few (program_in t) h 0 n l (turns.method_in m h) (turns.address_in m h) (turns.class_in m h))

@@ -1,3 +1,3 @@
--- The stepper's loops end, and keep the lent slices' lengths.
+-- The stepper's loops end.
 pub mod Fewer
 pub mod Falls

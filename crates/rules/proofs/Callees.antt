@@ -2,25 +2,24 @@
 use mathlib.Core.Path.{◌≡◌, refl, sym, ◌∙◌}
 use mathlib.Core.Bool.{Bool, true, not, ◌&&◌, ◌||◌}
 use Prim.Native.Nat.{ℕ, ◌<◌}
+use Rattle.std.specs.Prelude.{Option, Some, None}
 use Rattle.instruction.proofs.Flags.{both_true, if_use, if_true}
 use Rattle.mask.specs.Mask.{every}
 use Rattle.mask.proofs.Laws.{same_test, every_at, every_all}
-use Rattle.search.specs.declared.Callee.{Callee}
-use Rattle.search.specs.declared.Callee.TheVariants.{Found, Missing}
 use Rattle.flow.specs.Flows.{some, is_found, if_found}
 use Rattle.flow.proofs.Callees.{some_at, some_one, found_is, is_found_lem}
 
 -- a test of the callee that was found, by that callee
-if_found_lem : (r : Callee) (test : ℕ → Bool) → ((q : ℕ) → r ≡ Found q → test q ≡ true) → if_found r test ≡ true
-if_found_lem (Found q) test h = h q refl
-if_found_lem Missing test h = refl
+if_found_lem : (r : Option ℕ) (test : ℕ → Bool) → ((q : ℕ) → r ≡ Some q → test q ≡ true) → if_found r test ≡ true
+if_found_lem (Some q) test h = h q refl
+if_found_lem None test h = refl
 
-found_if : (r : Callee) (test : ℕ → Bool) (q : ℕ) → if_found r test ≡ true → r ≡ Found q → test q ≡ true
+found_if : (r : Option ℕ) (test : ℕ → Bool) (q : ℕ) → if_found r test ≡ true → r ≡ Some q → test q ≡ true
 found_if r test q e f = rw f at e
 
-module _ (n methods : ℕ) (mask : ℕ → Bool) (find : ℕ → Callee) (callees : ℕ → Bool)
+module _ (n methods : ℕ) (mask : ℕ → Bool) (find : ℕ → Option ℕ) (callees : ℕ → Bool)
     (lead : (q : ℕ) → callees q ≡ some n (λ k. mask k && is_found (find k) q))
-    (found_in : (k q : ℕ) → find k ≡ Found q → q < methods) where
+    (found_in : (k q : ℕ) → find k ≡ Some q → q < methods) where
   -- each class in the mask with its callee passes where each callee does
   pub by_callee : (test : ℕ → Bool)
       → every n (λ k. not (mask k) || if_found (find k) test) ≡ every methods (λ q. not (callees q) || test q)
@@ -53,7 +52,7 @@ module _ (n methods : ℕ) (mask : ℕ → Bool) (find : ℕ → Callee) (callee
     called q = not (callees q) || (every n (given q) && test q)
 
     -- class k leads to q
-    one : every n classes ≡ true → (k q : ℕ) → k < n → mask k ≡ true → find k ≡ Found q → (each k q ≡ true) × (test q ≡ true)
+    one : every n classes ≡ true → (k q : ℕ) → k < n → mask k ≡ true → find k ≡ Some q → (each k q ≡ true) × (test q ≡ true)
     one e k q l h f =
         both_true (each k q) (test q)
         (found_if (find k) (λ q. each k q && test q) q

@@ -4,25 +4,24 @@ use mathlib.Core.Bool.{Bool, true, false, not, ◌&&◌, ◌||◌}
 use Prim.Native.Nat.{ℕ}
 use lib.Dec.{ltb}
 use Rattle.mask.specs.declared.Mask.{Mask}
-use Rattle.mask.specs.Mask.{has, subset}
+use Rattle.mask.specs.Mask.{has, is_empty, subset}
 use Rattle.mask.proofs.Laws.{every_same}
 use Rattle.mask.proofs.Sets.{and_end, or_end}
 use Rattle.program.specs.Program.{Program, class_count}
 use Rattle.flow.specs.Claim.{leaving, Claim}
 use Rattle.flow.specs.Flows.{kept}
 use Rattle.flow.specs.Rules.{receiver_into, returned_into}
-use Rattle.slots.specs.Layout.{mask_of}
 use Rattle.sets.specs.Sets.{leads_to}
-use Rattle.sets.proofs.Receivers.{to, set_within, none_lead, one_leads}
+use Rattle.sets.proofs.Receivers.{to, set_within, not_empty_leads}
 use Rattle.carry.specs.Carried.{arguments_from}
 use Rattle.rules.specs.Broken.{callee_given, callee_returned, leaves_callee}
 
 module _ (p : Program) (c : Claim) (m pc : ℕ) (mask : Mask) (name count q : ℕ) (r : Mask)
     (bits : (k : ℕ) → has r k ≡ ltb k (class_count p) && to p mask name count q k) where
   -- no class leads there
-  module _ (none : subset r (mask_of 0) ≡ true) where
+  module _ (none : is_empty r ≡ true) where
     no_lead : leads_to p mask name count q ≡ false
-    no_lead = none_lead p mask name count q r bits none
+    no_lead = sym (not_empty_leads p mask name count q r bits) ∙ ap not none
 
     pub none_given : (register : ℕ) (t : Bool) → t ≡ t && callee_given p c m pc mask name count register q
     unfolding callee_given
@@ -37,9 +36,9 @@ module _ (p : Program) (c : Claim) (m pc : ℕ) (mask : Mask) (name count q : �
     none_leaves k t = rw no_lead (sym (or_end t))
 
   -- a class does
-  module _ (one : subset r (mask_of 0) ≡ false) where
+  module _ (one : is_empty r ≡ false) where
     a_lead : leads_to p mask name count q ≡ true
-    a_lead = one_leads p mask name count q r bits one
+    a_lead = sym (not_empty_leads p mask name count q r bits) ∙ ap not one
 
     pub one_given : (register : ℕ) (into : Mask) → ((k : ℕ) → has into k ≡ kept c (receiver_into p m pc k q)) → (a b : Bool) → a ≡ subset r into
         → b ≡ kept c (arguments_from p m pc q 1 count register) → a && b ≡ callee_given p c m pc mask name count register q

@@ -1,28 +1,28 @@
 -- Rules 9 and 10 of the classes in a mask, handler by handler in the order of the text: each takes those that it catches of the rest.
 -- Assumes nothing.
 use mathlib.Core.Path.{◌≡◌, refl, sym, ap, ◌∙◌}
+use Rattle.std.specs.Prelude.{Option, None, Some}
 use mathlib.Core.Bool.{Bool, true, false, false≢true, not, ◌&&◌, ◌||◌}
 use Prim.Native.Nat.{ℕ, ◌+◌, ◌≤◌, ◌<◌}
 use lib.Dec.{eqb, ltb}
 use borrow.Author.Tests.{lt-ltb}
+use Rattle.std.specs.Prelude.{Option, Some}
 use Rattle.text.proofs.Cases.{by_test}
 use Rattle.instruction.specs.declared.Instruction.TheVariants.{Throw}
 use Rattle.instruction.specs.Word.{pick}
 use Rattle.instruction.proofs.Flags.{both_true, if_use, if_true}
 use Rattle.mask.specs.declared.Mask.{Mask}
-use Rattle.mask.specs.Mask.{zero_bit, has, subset}
-use Rattle.mask.proofs.Laws.{same_test, and_false, every_at, every_all, every_not, every_same, subset_at, subset_all}
+use Rattle.mask.specs.Mask.{zero_bit, has, is_empty, subset}
+use Rattle.mask.proofs.Laws.{same_test, and_false, every_at, every_all, every_not, every_same, empty_none, empty_subset, subset_at, subset_all}
 use Rattle.mask.proofs.Sets.{no_bit, subset_fails}
 use Rattle.program.specs.Program.{Program, null_class, class_count, handler_count, handler_target}
-use Rattle.search.specs.declared.Handling.{Handling}
-use Rattle.search.specs.declared.Handling.TheVariants.{Caught}
 use Rattle.search.specs.Search.{below, catches, handler_for}
 use Rattle.flow.specs.Claim.{register_at, result_at, leaving, Claim}
 use Rattle.flow.specs.Flows.{Flows, kept, if_caught, if_uncaught}
 use Rattle.flow.specs.Rules.{carried, into_handler, into_leaving, thrown_classes, leaving_classes, raising}
 use Rattle.slots.specs.Layout.{mask_of}
 use Rattle.sets.proofs.Handlers.{same_classes, passed, none_yet, Rest, uncaught, is_taken_lem, taken_now, in_rest, rest_uncaught}
-use Rattle.rules.specs.Broken.{no_rule, broken_in, each_in, raised_rule}
+use Rattle.rules.specs.Broken.{broken_in, each_in, raised_rule}
 use Rattle.rules.proofs.Own.{asked_if, raised_by_lem, with_null}
 
 not_either : (a b : Bool) → a || b ≡ false → (a ≡ false) × (b ≡ false)
@@ -48,8 +48,8 @@ module _ (p : Program) (mask rest classes : Mask) (bits : (k : ℕ) → has rest
 
 -- ---- what leaves a method, and what is thrown
 -- the first broken of rules 9 and 10, by their tests
-abbrev first_of : Bool → Bool → ℕ
-first_of nine ten = pick nine (pick ten no_rule 10) 9
+abbrev first_of : Bool → Bool → Option ℕ
+first_of nine ten = pick nine (pick ten None (Some 10)) (Some 9)
 
 module _ (p : Program) (c : Claim) (m pc : ℕ) where
   pub leaving_raised : (q : ℕ) → raised_rule p c m pc (c (leaving q))
@@ -75,16 +75,16 @@ module _ (p : Program) (c : Claim) (m pc : ℕ) where
 
 module _ (p : Program) (c : Claim) (m pc : ℕ) (mask : Mask) where
   -- rules 9 and 10 of class k, by the answer to which handler it has
-  handled : ℕ → Handling → Bool
+  handled : ℕ → Option ℕ → Bool
   handled k r = if_caught r (λ i. kept c (carried p m pc (handler_target p m i)) && has (c (result_at m (handler_target p m i))) k)
 
-  unhandled : ℕ → Handling → Bool
+  unhandled : ℕ → Option ℕ → Bool
   unhandled k r = if_uncaught r (has (c (leaving m)) k)
 
   -- each class that a handler from number h on catches has its handler, for which rule 9 holds
   abbrev pub Held : ℕ → Type 0
   Held h = (k : ℕ) → k < class_count p → has mask k ≡ true → passed p m pc h k ≡ false
-      → (i : ℕ) × (handler_for p m pc k ≡ Caught i) × (kept c (into_handler p m pc k) ≡ true)
+      → (i : ℕ) × (handler_for p m pc k ≡ Some i) × (kept c (into_handler p m pc k) ≡ true)
 
   pub held_start : Held (handler_count p m)
   held_start k l e f = absurd (false≢true (sym f ∙ none_yet p m pc k))
@@ -96,21 +96,21 @@ module _ (p : Program) (c : Claim) (m pc : ℕ) (mask : Mask) where
     to = handler_target p m h
 
     -- rule 9 of a class that h catches
-    by_handler : (k : ℕ) → handler_for p m pc k ≡ Caught h
+    by_handler : (k : ℕ) → handler_for p m pc k ≡ Some h
         → kept c (into_handler p m pc k) ≡ kept c (carried p m pc to) && has (c (result_at m to)) k
     unfolding to handled
     by_handler k e = ap (handled k) e
 
     abbrev pub goes_into : Bool
     goes_into =
-        subset taken (mask_of 0)
+        is_empty taken
         || (kept c (carried p m pc (handler_target p m h)) && subset taken (c (result_at m (handler_target p m h))))
 
     goes : (k : ℕ) → goes_into ≡ true → has taken k ≡ true → kept c (carried p m pc to) && has (c (result_at m to)) k ≡ true
     unfolding to
     goes k ok e =
-        by_test (subset taken (mask_of 0))
-        (λ t. absurd (false≢true (sym (no_bit k) ∙ subset_at taken (mask_of 0) t k e)))
+        by_test (is_empty taken)
+        (λ t. absurd (false≢true (sym (empty_none taken t k) ∙ e)))
         (λ t.
         let (a, b) = both_true (kept c (carried p m pc to)) (subset taken (c (result_at m to))) (rw t at ok) in
         rw (a, subset_at taken (c (result_at m to)) b k e))
@@ -124,7 +124,7 @@ module _ (p : Program) (c : Claim) (m pc : ℕ) (mask : Mask) where
         (λ before. held k less e before)
 
     fails : (k : ℕ) → has taken k ≡ true → kept c (carried p m pc to) && has (c (result_at m to)) k ≡ false
-        → raised_rule p c m pc mask ≡ 9
+        → raised_rule p c m pc mask ≡ Some 9
     unfolding raised_rule
     fails k e f =
         let is = is_taken_lem p m pc mask h l rest taken so_far bits k e in
@@ -133,17 +133,17 @@ module _ (p : Program) (c : Claim) (m pc : ℕ) (mask : Mask) where
         (every_not (class_count p) (λ j. not (has mask j) || kept c (into_handler p m pc j)) k is.within
         (rw is.in_mask broken))
 
-    pub broken_here : goes_into ≡ false → raised_rule p c m pc mask ≡ 9
+    pub broken_here : goes_into ≡ false → raised_rule p c m pc mask ≡ Some 9
     unfolding to
     broken_here f =
-        let (some, none) = not_either (subset taken (mask_of 0)) (kept c (carried p m pc to) && subset taken (c (result_at m to))) f in
+        let (some, none) = not_either (is_empty taken) (kept c (carried p m pc to) && subset taken (c (result_at m to))) f in
         by_test (kept c (carried p m pc to))
         (λ t.
         let fewer = not_both (kept c (carried p m pc to)) (subset taken (c (result_at m to))) none t in
         let (k, e, out) = subset_fails taken (c (result_at m to)) fewer in
         fails k e (ap (◌&&◌ (kept c (carried p m pc to))) out ∙ and_false (kept c (carried p m pc to))))
         (λ t.
-        let (k, e, out) = subset_fails taken (mask_of 0) some in
+        let (k, e, out) = subset_fails taken (mask_of 0) (sym (empty_subset taken (mask_of 0) no_bit) ∙ some) in
         fails k e (ap (λ (b : Bool). b && has (c (result_at m to)) k) t))
 
   -- ---- all handlers
@@ -176,6 +176,6 @@ module _ (p : Program) (c : Claim) (m pc : ℕ) (mask : Mask) where
         (every_at (class_count p) (λ k. not (has mask k) || kept c (into_leaving p m pc k)) s k l)
         e))
 
-    pub raised_is : (t : Bool) → t ≡ subset rest (c (leaving m)) → (n : ℕ) → n ≡ pick t no_rule 10 → n ≡ raised_rule p c m pc mask
+    pub raised_is : (t : Bool) → t ≡ subset rest (c (leaving m)) → (n : Option ℕ) → n ≡ pick t None (Some 10) → n ≡ raised_rule p c m pc mask
     unfolding raised_rule
     raised_is t e n is = is ∙ rw (all_handled, ← rest_leaves, ← e)

@@ -1,5 +1,6 @@
 -- Rules 9 and 10 of the classes in a mask as those of an instruction, and of a class that it raises itself. Assumes nothing.
 use mathlib.Core.Path.{◌≡◌, refl, sym, ap, ◌∙◌}
+use Rattle.std.specs.Prelude.{None, Some}
 use mathlib.Core.Bool.{Bool, true, false, false≢true, not, ◌&&◌, ◌||◌}
 use Prim.Native.Nat.{ℕ, zero, suc, ◌≤◌, ◌<◌}
 use native.Mathlib.Omega.{arith}
@@ -22,7 +23,7 @@ use Rattle.flow.specs.Flows.{Flows, ◌&◌, some, kept}
 use Rattle.flow.specs.Rules.{own, null_in, into_handler, into_leaving, raised_by, raising}
 use Rattle.sets.specs.Sets.{fails_cast}
 use Rattle.slots.specs.Layout.{mask_of}
-use Rattle.rules.specs.Broken.{no_rule, broken_in, each_in, raised_rule, own_rule}
+use Rattle.rules.specs.Broken.{broken_in, each_in, raised_rule, own_rule}
 
 -- ---- tests
 or_cases : {P : Type 0} (a b : Bool) → (a ≡ true → P) → (b ≡ true → P) → a || b ≡ true → P
@@ -89,8 +90,8 @@ module _ (p : Program) (c : Claim) (m pc : ℕ) where
       → raised_rule p c m pc r ≡ broken_in c (raising p m pc i)
   unfolding raised_rule
   raised_by_lem i r h =
-      ap (λ (t : Bool). pick t (pick (each_in p r (λ k. kept c (into_leaving p m pc k))) no_rule 10) 9) (h (into_handler p m pc))
-      ∙ ap (λ (t : Bool). pick (kept c (raised_by p m pc i (into_handler p m pc))) (pick t no_rule 10) 9) (h (into_leaving p m pc))
+      ap (λ (t : Bool). pick t (pick (each_in p r (λ k. kept c (into_leaving p m pc k))) None (Some 10)) (Some 9)) (h (into_handler p m pc))
+      ∙ ap (λ (t : Bool). pick (kept c (raised_by p m pc i (into_handler p m pc))) (pick t None (Some 10)) (Some 9)) (h (into_leaving p m pc))
 
   module _ (few : class_count p ≤ 64) where
     -- the class of null besides, where register a may be null
@@ -112,8 +113,8 @@ module _ (p : Program) (c : Claim) (m pc : ℕ) where
       pub own_raised : raised_rule p c m pc r ≡ own_rule p c m pc may k
       unfolding raised_rule
       own_raised =
-          ap (λ (t : Bool). pick t (pick (each_in p r (λ j. kept c (into_leaving p m pc j))) no_rule 10) 9) (only_own (into_handler p m pc))
-          ∙ ap (λ (t : Bool). pick (not may || kept c (own p m pc k (into_handler p m pc))) (pick t no_rule 10) 9)
+          ap (λ (t : Bool). pick t (pick (each_in p r (λ j. kept c (into_leaving p m pc j))) None (Some 10)) (Some 9)) (only_own (into_handler p m pc))
+          ∙ ap (λ (t : Bool). pick (not may || kept c (own p m pc k (into_handler p m pc))) (pick t None (Some 10)) (Some 9))
           (only_own (into_leaving p m pc))
 
   -- ---- a division
@@ -123,9 +124,9 @@ module _ (p : Program) (c : Claim) (m pc : ℕ) where
       let x = kept c (own p m pc arithmetic_class (into_handler p m pc)) in
       let y = kept c (own p m pc arithmetic_class (into_leaving p m pc)) in
       let h = has (c (register_at m pc r)) zero_bit in
-      ap (λ (t : Bool). pick (not t || x) (pick (not t || y) no_rule 10) 9) e
-      ∙ ap (λ (t : Bool). pick t (pick (not (divides o && h) || y) no_rule 10) 9) (asked_if (divides o) h x)
-      ∙ ap (λ (t : Bool). pick (not (divides o) || (not h || x)) (pick t no_rule 10) 9) (asked_if (divides o) h y)
+      ap (λ (t : Bool). pick (not t || x) (pick (not t || y) None (Some 10)) (Some 9)) e
+      ∙ ap (λ (t : Bool). pick t (pick (not (divides o && h) || y) None (Some 10)) (Some 9)) (asked_if (divides o) h x)
+      ∙ ap (λ (t : Bool). pick (not (divides o) || (not h || x)) (pick t None (Some 10)) (Some 9)) (asked_if (divides o) h y)
 
 -- ---- a cast
 if_either : (a b s x : Bool) → (not a || (not b || x)) && (not s || x) ≡ not ((a && b) || s) || x
@@ -154,5 +155,5 @@ cast_raised p c m pc a k mask e =
     let fails = some (class_count p) (λ j. in-mask j && not (below p j k)) in
     let same : (t : Bool) → not fails || t ≡ each t = λ t. sym (all_if (class_count p) in-mask (λ j. not (below p j k)) t) in
     rw e
-    (ap (λ (t : Bool). pick t (pick (not fails || y) no_rule 10) 9) (same x)
-    ∙ ap (λ (t : Bool). pick (each x) (pick t no_rule 10) 9) (same y))
+    (ap (λ (t : Bool). pick t (pick (not fails || y) None (Some 10)) (Some 9)) (same x)
+    ∙ ap (λ (t : Bool). pick (each x) (pick t None (Some 10)) (Some 9)) (same y))

@@ -1,9 +1,11 @@
 -- The rules of a virtual call, asked of each callee that a class in the receiver leads to, as the code asks them. Assumes nothing.
+use Rattle.std.specs.Prelude.{Some}
 use mathlib.Core.Path.{◌≡◌, refl, sym, ap, ◌∙◌}
 use mathlib.Core.Bool.{Bool, not, ◌&&◌, ◌||◌}
 use Prim.Native.Nat.{ℕ, suc, ◌-◌, ◌≤◌}
 use lib.Dec.{eqb, ltb}
 use Rattle.instruction.specs.declared.Instruction.TheVariants.{InvokeVirtual}
+use Rattle.instruction.specs.Word.{pick}
 use Rattle.mask.specs.declared.Mask.{Mask}
 use Rattle.mask.specs.Mask.{zero_bit, has, every}
 use Rattle.mask.proofs.Laws.{every_same}
@@ -12,7 +14,7 @@ use Rattle.search.specs.Search.{virtual_callee}
 use Rattle.machine.proofs.Found.{callee_fits}
 use Rattle.flow.specs.Claim.{register_at, leaving, Claim}
 use Rattle.flow.specs.Flows.{Flows, ◌&◌, some, each, is_found, kept}
-use Rattle.flow.specs.Rules.{argument_into, receiver_into, receivers, returned_into, leaving_classes, raising}
+use Rattle.flow.specs.Rules.{carried, argument_into, receiver_into, receivers, returned_into, leaving_classes, raising, rules_of}
 use Rattle.sets.specs.Sets.{leads_to}
 use Rattle.carry.specs.Carried.{arguments_from}
 use Rattle.rules.specs.Broken.{broken_in, each_in, raised_rule, callee_given, callee_returned, leaves_callee}
@@ -48,6 +50,15 @@ module _ (p : Program) (c : Claim) (m pc n b r : ℕ) where
       (by_receiver (class_count p) (method_count p) (has mask) (λ k. virtual_callee p k n b) (leads_to p mask n b) lead
       (λ k q e. (callee_fits p n b q k e).0)
       (λ k q. kept c (receiver_into p m pc k q)) (λ q. kept c (each (b - 1) (λ i. argument_into p m pc r q (suc i)))))
+
+  -- the rules of the call
+  pub call_rules : broken_in c (rules_of p m pc (InvokeVirtual n b r))
+      ≡ pick (kept c (carried p m pc (suc pc)))
+      (pick (every (method_count p) (callee_given p c m pc mask n b r))
+      (pick (every (method_count p) (callee_returned p c m pc mask n b)) (broken_in c (raising p m pc (InvokeVirtual n b r))) (Some 7))
+      (Some 6))
+      (Some 2)
+  call_rules = rw (given_kept, returned_kept)
 
   -- what leaves the callees
   module _ (raised : Mask) (are : (k : ℕ) → has raised k ≡ some (method_count p) (leaves_callee p c mask n b k)) where

@@ -1,5 +1,5 @@
 -- The number of the first broken rule of a list. Definitions only, and none that a reader of the public promise has to believe.
-use Rattle.std.specs.Prelude.{Bool, not, ◌&&◌, ◌||◌, List, [], ◌∷◌, ℕ, suc, eqb}
+use Rattle.std.specs.Prelude.{Bool, not, ◌&&◌, ◌||◌, List, [], ◌∷◌, ℕ, suc, eqb, Option, None, Some}
 use Rattle.instruction.specs.Word.{pick}
 use Rattle.mask.specs.declared.Mask.{Mask}
 use Rattle.mask.specs.Mask.{has, every}
@@ -13,39 +13,36 @@ use Rattle.sets.specs.Sets.{leads_to}
 use Rattle.carry.specs.Carried.{arguments_from}
 use Rattle.rules.specs.declared.Broken.{Broken}
 
--- stands for no rule: above the number of every rule
-abbrev pub no_rule : ℕ
-no_rule = 255
-
-abbrev pub broken_in : Claim → List Rule → ℕ
-broken_in c [] = no_rule
-broken_in c (r ∷ rs) = pick (kept c r.flows) (broken_in c rs) r.number
+abbrev pub broken_in : Claim → List Rule → Option ℕ
+broken_in c [] = None
+broken_in c (r ∷ rs) = pick (kept c r.flows) (broken_in c rs) (Some r.number)
 
 -- the rules of an instruction that writes register a, where rule 4's test and the later rules came out so
-abbrev pub written : Program → Claim → ℕ → ℕ → ℕ → Bool → ℕ → ℕ
-written p c m pc a ok later = pick (kept c (onward_except p m pc a (suc pc))) (pick ok later 4) 2
+abbrev pub written : Program → Claim → ℕ → ℕ → ℕ → Bool → Option ℕ → Option ℕ
+written p c m pc a ok later = pick (kept c (onward_except p m pc a (suc pc))) (pick ok later (Some 4)) (Some 2)
 
 -- rules 0 and 1 at address 0 of a method, where the later ones came out so
-abbrev pub at_entry : Program → Claim → ℕ → ℕ → ℕ
-at_entry p c m later = pick (not (eqb m 0) || kept c (initial_memory p)) (pick (kept c (entry p m)) later 1) 0
+abbrev pub at_entry : Program → Claim → ℕ → Option ℕ → Option ℕ
+at_entry p c m later =
+    pick (not (eqb m 0) || kept c (initial_memory p)) (pick (kept c (entry p m)) later (Some 1)) (Some 0)
 
 -- a test of each class in the mask
 abbrev pub each_in : Program → Mask → (ℕ → Bool) → Bool
 each_in p mask test = every (class_count p) (λ k. not (has mask k) || test k)
 
 -- rules 9 and 10 of the classes in the mask
-unfoldable pub raised_rule : Program → Claim → ℕ → ℕ → Mask → ℕ
+unfoldable pub raised_rule : Program → Claim → ℕ → ℕ → Mask → Option ℕ
 raised_rule p c m pc mask =
     pick (each_in p mask (λ k. kept c (into_handler p m pc k)))
-    (pick (each_in p mask (λ k. kept c (into_leaving p m pc k))) no_rule 10)
-    9
+    (pick (each_in p mask (λ k. kept c (into_leaving p m pc k))) None (Some 10))
+    (Some 9)
 
 -- rules 9 and 10 of a class that an instruction raises itself, where it may
-abbrev pub own_rule : Program → Claim → ℕ → ℕ → Bool → ℕ → ℕ
+abbrev pub own_rule : Program → Claim → ℕ → ℕ → Bool → ℕ → Option ℕ
 own_rule p c m pc may k =
     pick (not may || kept c (own p m pc k (into_handler p m pc)))
-    (pick (not may || kept c (own p m pc k (into_leaving p m pc))) no_rule 10)
-    9
+    (pick (not may || kept c (own p m pc k (into_leaving p m pc))) None (Some 10))
+    (Some 9)
 
 -- rule 6 of method q, if a class in the receiver's mask leads to it: each class that does is in its first parameter, and the other
 -- arguments flow
@@ -70,7 +67,7 @@ address_verdict p c m pc = verdict_of c m pc (rules_at p m pc)
 abbrev pub method_verdict : Program → Claim → ℕ → Verdict
 method_verdict p c m = first_of (code_length p m) (address_verdict p c m)
 
--- the rule and place of a verdict; zeros for the place where no rule is broken
-abbrev pub broken_of : Verdict → Broken
-broken_of accepted = record { rule = no_rule; method = 0; address = 0 }
-broken_of (violated rule method address) = record { rule = rule; method = method; address = address }
+-- the rule and place of a verdict, where a rule is broken
+abbrev pub broken_of : Verdict → Option Broken
+broken_of accepted = None
+broken_of (violated rule method address) = Some (record { rule = rule; method = method; address = address })

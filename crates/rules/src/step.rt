@@ -1,119 +1,102 @@
 // Rules of instructions that write no register: where they go on to, what they store, return and throw.
-ghost use Rattle.std.specs.Prelude.{◌≡◌, [], ◌∷◌, ℕ, ◌<◌};
-ghost use Rattle.instruction.specs.Word.{pick};
+ghost use Rattle.std.specs.Prelude.{◌≡◌, [], ◌∷◌};
 ghost use Rattle.instruction.specs.declared.Instruction.TheVariants.{Iput, Sput, Return, ReturnVoid, Throw};
-ghost use Rattle.program.specs.Tables.{program_in};
-ghost use Rattle.flow.specs.Rules.{to_next, to_target, rules_of};
-ghost use Rattle.slots.specs.Layout.{claim_in};
-ghost use Rattle.sets.specs.Sets.{sets_of};
+ghost use Rattle.flow.specs.Rules.{to_next, to_target};
 ghost use Rattle.rules.specs.Broken.{broken_in};
+ghost use Rattle.rules.specs.Site.{program_of, claim_of, broken_at};
 
-use crate::{NO_RULE, raise};
+use crate::site::Site;
+use slots::Slot;
 
-// A rule's number where it is not kept, else what comes of the later ones.
-pub fn first(kept: bool, number: usize, later: usize) -> usize
-    ensures value { result ≡ pick kept later number }
-{
-    if kept { later } else { number }
-}
+impl Site<'_> {
+    pub fn to_next(&self) -> Option<usize>
+        ensures value { result ≡ broken_in (claim_of self.now) (to_next (program_of self.now) self.now.method self.now.address ∷ []) }
+    {
+        if self.flows_on() { None } else { Some(2) }
+    }
 
-pub fn to_next(t: &[u64; 768], w: &[u64; 9712], m: usize, pc: usize) -> usize
-    requires { pc < 32 }
-    ensures value { result ≡ broken_in (claim_in w.now) (to_next (program_in t.now) m pc ∷ []) }
-{
-    first(carry::onward(t, w, m, pc, pc + 1), 2, NO_RULE)
-}
+    pub fn to_target(&self, target: u32) -> Option<usize>
+        ensures value { let p = program_of self.now in
+            result ≡ broken_in (claim_of self.now) (to_target p self.now.method self.now.address target ∷ []) }
+    {
+        if self.flows_to(target as usize) {
+            None
+        } else {
+            Some(3)
+        }
+    }
 
-pub fn to_target(t: &[u64; 768], w: &[u64; 9712], m: usize, pc: usize, target: u32) -> usize
-    ensures value { result ≡ broken_in (claim_in w.now) (to_target (program_in t.now) m pc target ∷ []) }
-{
-    first(carry::onward(t, w, m, pc, target as usize), 3, NO_RULE)
-}
+    pub fn to_both(&self, target: u32) -> Option<usize>
+        ensures value { let p = program_of self.now in
+            let m = self.now.method in
+            let pc = self.now.address in
+            result ≡ broken_in (claim_of self.now) (to_next p m pc ∷ to_target p m pc target ∷ []) }
+    {
+        if self.flows_on() {
+            self.to_target(target)
+        } else {
+            Some(2)
+        }
+    }
 
-pub fn to_both(t: &[u64; 768], w: &[u64; 9712], m: usize, pc: usize, target: u32) -> usize
-    requires { pc < 32 }
-    ensures value { let p = program_in t.now in
-        let c = claim_in w.now in
-        result ≡ broken_in c (to_next p m pc ∷ to_target p m pc target ∷ []) }
-{
-    first(
-        carry::onward(t, w, m, pc, pc + 1),
-        2,
-        to_target(t, w, m, pc, target),
-    )
-}
+    pub fn field_written(&self, from: u8, object: u8, field: u8) -> Option<usize>
+        ensures value { result ≡ broken_at self.now (Iput from object field) }
+    {
+        let objects = self.register(object);
+        let having = self.sets.with_field(objects, field);
+        if !self.flows_on() {
+            return Some(2);
+        }
+        if !classes::into_fields(self.claim, having, field as usize, self.register(from)) {
+            return Some(5);
+        }
+        self.own(objects.has(62), 2)
+    }
 
-pub fn field_written(
-    t: &[u64; 768],
-    w: &[u64; 9712],
-    s: &[u64; 80],
-    m: usize,
-    pc: usize,
-    from: u8,
-    object: u8,
-    field: u8,
-) -> usize
-    requires { (pc < 32) × (s.now ≡ sets_of (program_in t.now)) }
-    ensures value { result ≡ broken_in (claim_in w.now) (rules_of (program_in t.now) m pc (Iput from object field)) }
-{
-    let mask = slots::register(w, m, pc, object as usize);
-    let value = slots::register(w, m, pc, from as usize);
-    let having = sets::with_field(t, s, mask, field);
-    let stored = classes::into_fields(w, having, field as usize, value);
-    let raised = raise::own(t, w, s, m, pc, mask.has(62), 2);
-    first(
-        carry::onward(t, w, m, pc, pc + 1),
-        2,
-        first(stored, 5, raised),
-    )
-}
+    pub fn static_written(&self, from: u8, place: u8) -> Option<usize>
+        ensures value { result ≡ broken_at self.now (Sput from place) }
+    {
+        if !self.flows_on() {
+            return Some(2);
+        }
+        if self
+            .register(from)
+            .subset(slots::mask(self.claim, Slot::Static(place as usize)))
+        {
+            None
+        } else {
+            Some(5)
+        }
+    }
 
-pub fn static_written(
-    t: &[u64; 768],
-    w: &[u64; 9712],
-    m: usize,
-    pc: usize,
-    from: u8,
-    place: u8,
-) -> usize
-    requires { pc < 32 }
-    ensures value { result ≡ broken_in (claim_in w.now) (rules_of (program_in t.now) m pc (Sput from place)) }
-{
-    let value = slots::register(w, m, pc, from as usize);
-    let stored = value.subset(slots::of_static(w, place as usize));
-    first(
-        carry::onward(t, w, m, pc, pc + 1),
-        2,
-        first(stored, 5, NO_RULE),
-    )
-}
+    pub fn returned(&self, from: u8) -> Option<usize>
+        ensures value { result ≡ broken_at self.now (Return from) }
+    {
+        if self
+            .register(from)
+            .subset(slots::mask(self.claim, Slot::Returned(self.method)))
+        {
+            None
+        } else {
+            Some(8)
+        }
+    }
 
-pub fn returned(t: &[u64; 768], w: &[u64; 9712], m: usize, pc: usize, from: u8) -> usize
-    ensures value { result ≡ broken_in (claim_in w.now) (rules_of (program_in t.now) m pc (Return from)) }
-{
-    let value = slots::register(w, m, pc, from as usize);
-    first(value.subset(slots::returned(w, m)), 8, NO_RULE)
-}
+    pub fn returned_void(&self) -> Option<usize>
+        ensures value { result ≡ broken_at self.now ReturnVoid }
+    {
+        if slots::mask(self.claim, Slot::Returned(self.method)).has(62) {
+            None
+        } else {
+            Some(8)
+        }
+    }
 
-pub fn returned_void(t: &[u64; 768], w: &[u64; 9712], m: usize, pc: usize) -> usize
-    ensures value { result ≡ broken_in (claim_in w.now) (rules_of (program_in t.now) m pc ReturnVoid) }
-{
-    first(slots::returned(w, m).has(62), 8, NO_RULE)
-}
-
-pub fn thrown(
-    t: &[u64; 768],
-    w: &[u64; 9712],
-    s: &[u64; 80],
-    m: usize,
-    pc: usize,
-    from: u8,
-) -> usize
-    requires { s.now ≡ sets_of (program_in t.now) }
-    ensures value { result ≡ broken_in (claim_in w.now) (rules_of (program_in t.now) m pc (Throw from)) }
-{
-    let mask = slots::register(w, m, pc, from as usize);
-    let throwable = mask.common(sets::below(s, 1));
-    let raised = sets::add(throwable, 2, mask.has(62));
-    raise::raised(t, w, s, m, pc, raised)
+    pub fn thrown(&self, from: u8) -> Option<usize>
+        ensures value { result ≡ broken_at self.now (Throw from) }
+    {
+        let mask = self.register(from);
+        let throwable = mask.common(self.sets.below(1));
+        self.raised(sets::add(throwable, 2, mask.has(62)))
+    }
 }

@@ -4,8 +4,7 @@ use mathlib.Core.Bool.{true, false}
 use mathlib.Core.List.{List, [], ◌∷◌}
 use Prim.Native.Nat.{ℕ, suc, ◌+◌, ◌*◌}
 use lib.Dec.{eqb-zero-suc}
-use Rattle.search.specs.declared.Callee.TheVariants.{Found, Missing}
-use Rattle.search.specs.declared.Handling.TheVariants.{Caught, Uncaught}
+use Rattle.std.specs.Prelude.{Some, None}
 use Rattle.program.specs.Program.{Method, Program, handler_at, handler_from, handler_class}
 use Rattle.search.specs.Search.{below_in, below, has_field, answers, method_in, callee_in, virtual_callee, catches, handler_for}
 
@@ -63,15 +62,15 @@ unfolding example has_field below_in
 no_field = refl
 
 -- ---- virtual search: methods 1 and 2 of class 1 are passed by, one for its count and one for its kind
-passed_by : virtual_callee example 2 7 1 ≡ Found 0
+passed_by : virtual_callee example 2 7 1 ≡ Some 0
 unfolding example method callee_in method_in answers
 passed_by = refl
 
-other_count : virtual_callee example 2 7 2 ≡ Found 1
+other_count : virtual_callee example 2 7 2 ≡ Some 1
 unfolding example method callee_in method_in answers
 other_count = refl
 
-never_downward : virtual_callee example 0 7 2 ≡ Missing
+never_downward : virtual_callee example 0 7 2 ≡ None
 unfolding example method callee_in method_in answers
 never_downward = refl
 
@@ -89,25 +88,25 @@ unfolding example method handler
 no_line = refl
 
 -- ---- handler search: the highest number of those that fit, which is the first line
-first_of_three : handler_for example 0 3 2 ≡ Caught 2
+first_of_three : handler_for example 0 3 2 ≡ Some 2
 unfolding example method handler handler_for catches below_in
 first_of_three = refl
 
 -- address 5 is the end of the first line, which it does not cover
-past_its_end : handler_for example 0 5 2 ≡ Caught 1
+past_its_end : handler_for example 0 5 2 ≡ Some 1
 unfolding example method handler handler_for catches below_in
 past_its_end = refl
 
 -- address 1 is before its start
-before_its_start : handler_for example 0 1 2 ≡ Caught 1
+before_its_start : handler_for example 0 1 2 ≡ Some 1
 unfolding example method handler handler_for catches below_in
 before_its_start = refl
 
 -- class 0 is below no class but itself
-class_above : handler_for example 0 3 0 ≡ Caught 0
+class_above : handler_for example 0 3 0 ≡ Some 0
 unfolding example method handler handler_for catches below_in
 class_above = refl
 
-uncovered : handler_for example 0 9 2 ≡ Uncaught
+uncovered : handler_for example 0 9 2 ≡ None
 unfolding example method handler handler_for catches below_in
 uncovered = refl

@@ -1,14 +1,13 @@
 -- The search by number answers the first line of the text that fits, and none just when no line fits. Assumes nothing.
 use mathlib.Core.Path.{◌≡◌, refl, sym, ap, ◌∙◌}
 use mathlib.Core.Bool.{false}
-use mathlib.Core.Option.{Option, none, some, map}
 use Prim.Native.Nat.{ℕ, ◌<◌, ◌/◌, ◌%◌}
 use native.Mathlib.Omega.{arith}
+use Rattle.std.specs.Prelude.{Option, Some, None, option_map}
 use Rattle.program.specs.Lists.{last}
 use Rattle.program.specs.Program.{Program, method_at, handler_count, handler_at, from_last}
 use Rattle.program.proofs.Lists.{get_d_reverse, first_stop, first_none, last_some, last_nothing}
-use Rattle.search.specs.declared.Handling.TheVariants.{Uncaught}
-use Rattle.search.specs.Search.{catches, handling_of, handler_for}
+use Rattle.search.specs.Search.{catches, handler_for}
 use Rattle.search.specs.Lines.{line_at, line_fits, line_target, first_line, target_of}
 use Rattle.search.proofs.Searches.{handler_missing}
 
@@ -34,11 +33,11 @@ module _ (p : Program) (m : ℕ) where
 
     -- the first line that fits, by what the search finds
     line_of_lem : (r : Option ℕ) → last (handler_count p m) (catches p m pc c) ≡ r
-        → first_line p m pc c ≡ map (from_last (handler_count p m)) r
-    line_of_lem none e =
+        → first_line p m pc c ≡ option_map (from_last (handler_count p m)) r
+    line_of_lem None e =
         first_none (handler_count p m) (line_fits p m pc c)
         (λ i l. sym (same_fit i l) ∙ last_nothing (handler_count p m) (catches p m pc c) e (from_last (handler_count p m) i) (omega arith))
-    line_of_lem (some h) e =
+    line_of_lem (Some h) e =
         let n = handler_count p m in
         let is = last_some n (catches p m pc c) h e in
         let l = is.within in
@@ -47,45 +46,41 @@ module _ (p : Program) (m : ℕ) where
         (number_fit h l ∙ is.passes)
 
     -- "always the first fitting line in the text": the number answered is that of the first line that fits
-    pub first_line_lem : handler_for p m pc c ≡ handling_of (map (from_last (handler_count p m)) (first_line p m pc c))
+    pub first_line_lem : handler_for p m pc c ≡ option_map (from_last (handler_count p m)) (first_line p m pc c)
     unfolding handler_for
     first_line_lem = by (last (handler_count p m) (catches p m pc c)) refl
       where
         by : (r : Option ℕ) → last (handler_count p m) (catches p m pc c) ≡ r
-            → handling_of r ≡ handling_of (map (from_last (handler_count p m)) (first_line p m pc c))
-        by none e = rw (line_of_lem none e)
-        by (some h) e =
+            → r ≡ option_map (from_last (handler_count p m)) (first_line p m pc c)
+        by None e = rw (line_of_lem None e)
+        by (Some h) e =
             let n = handler_count p m in
             let l = (last_some n (catches p m pc c) h e).within in
             let back : from_last n (from_last n h) ≡ h = omega arith in
-            rw (line_of_lem (some h) e, back)
+            rw (line_of_lem (Some h) e, back)
 
     -- the handler taken goes where that line says
-    pub same_target : target_of p m (handler_for p m pc c) ≡ map (line_target p m) (first_line p m pc c)
+    pub same_target : target_of p m (handler_for p m pc c) ≡ option_map (line_target p m) (first_line p m pc c)
     unfolding handler_for
     same_target = by (last (handler_count p m) (catches p m pc c)) refl
       where
         by : (r : Option ℕ) → last (handler_count p m) (catches p m pc c) ≡ r
-            → target_of p m (handling_of r) ≡ map (line_target p m) (first_line p m pc c)
-        by none e = rw (line_of_lem none e)
-        by (some h) e =
+            → target_of p m (r) ≡ option_map (line_target p m) (first_line p m pc c)
+        by None e = rw (line_of_lem None e)
+        by (Some h) e =
             let l = (last_some (handler_count p m) (catches p m pc c) h e).within in
-            rw (line_of_lem (some h) e) (ap (λ (w : ℕ). some (w / 256 % 256)) (get_d_reverse (method_at p m).handlers h 0 l))
+            rw (line_of_lem (Some h) e) (ap (λ (w : ℕ). Some (w / 256 % 256)) (get_d_reverse (method_at p m).handlers h 0 l))
 
     -- "and none just when none fits"
-    pub none_fits : handler_for p m pc c ≡ Uncaught → (i : ℕ) → i < handler_count p m → line_fits p m pc c i ≡ false
+    pub none_fits : handler_for p m pc c ≡ None → (i : ℕ) → i < handler_count p m → line_fits p m pc c i ≡ false
     unfolding handler_for
     none_fits e i l =
         sym (same_fit i l)
-        ∙ last_nothing (handler_count p m) (catches p m pc c) (none_found (last (handler_count p m) (catches p m pc c)) e)
+        ∙ last_nothing (handler_count p m) (catches p m pc c) e
         (from_last (handler_count p m) i)
         (omega arith)
-      where
-        none_found : (r : Option ℕ) → handling_of r ≡ Uncaught → r ≡ none
-        none_found none f = refl
-        none_found (some h) f = let z : ◌≡◌ {A = ℕ} 0 1 = cc in absurd (omega arith)
 
-    pub none_taken : ((i : ℕ) → i < handler_count p m → line_fits p m pc c i ≡ false) → handler_for p m pc c ≡ Uncaught
+    pub none_taken : ((i : ℕ) → i < handler_count p m → line_fits p m pc c i ≡ false) → handler_for p m pc c ≡ None
     none_taken fails =
         handler_missing p m pc c
         (λ k l. sym (number_fit k l) ∙ fails (from_last (handler_count p m) k) (omega arith))

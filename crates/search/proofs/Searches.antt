@@ -1,15 +1,12 @@
 -- Laws of the searches, one for each way that a search goes. Assumes nothing.
-use mathlib.Core.Path.{◌≡◌, refl, ap}
+use mathlib.Core.Path.{◌≡◌}
 use mathlib.Core.Bool.{true, false}
-use mathlib.Core.Option.{Option, none, some}
 use Prim.Native.Nat.{ℕ, suc, ◌≤◌, ◌<◌}
-use native.Mathlib.Omega.{arith}
 use lib.Dec.{eqb}
 use borrow.Author.Tests.{lt-ltb, le-ltb, le-leb, lt-leb, eq-eqb, ne_eqb}
-use Rattle.search.specs.declared.Callee.TheVariants.{Found, Missing}
-use Rattle.search.specs.declared.Handling.TheVariants.{Caught, Uncaught}
+use Rattle.std.specs.Prelude.{Some, None}
 use Rattle.program.specs.Program.{Program, field_count, field_class, method_count, method_class, method_name, method_kind, arguments, handler_count, handler_from, handler_to, handler_class}
-use Rattle.search.specs.Search.{below, has_field, answers, callee_of, method_in, catches, handling_of, handler_for}
+use Rattle.search.specs.Search.{below, has_field, answers, method_in, catches, handler_for}
 use Rattle.program.specs.Lists.{last}
 use Rattle.program.proofs.Lists.{first_stop, first_none, last_stop, last_none, Last, last_some}
 
@@ -43,13 +40,13 @@ module _ (p : Program) where
         rw (eq-eqb (method_class p m) c e, eq-eqb (method_name p m) name d, eq-eqb (method_kind p m) 0 k)
 
   module _ (c name count : ℕ) where
-    pub method_found : (i : ℕ) → i < method_count p → ((k : ℕ) → k < i → answers p c name count k ≡ false) → answers p c name count i ≡ true → method_in p c name count ≡ Found i
+    pub method_found : (i : ℕ) → i < method_count p → ((k : ℕ) → k < i → answers p c name count k ≡ false) → answers p c name count i ≡ true → method_in p c name count ≡ Some i
     unfolding method_in
-    method_found i l before e = ap callee_of (first_stop (method_count p) (answers p c name count) i l before e)
+    method_found i l before e = first_stop (method_count p) (answers p c name count) i l before e
 
-    pub method_missing : ((k : ℕ) → k < method_count p → answers p c name count k ≡ false) → method_in p c name count ≡ Missing
+    pub method_missing : ((k : ℕ) → k < method_count p → answers p c name count k ≡ false) → method_in p c name count ≡ None
     unfolding method_in
-    method_missing before = ap callee_of (first_none (method_count p) (answers p c name count) before)
+    method_missing before = first_none (method_count p) (answers p c name count) before
 
   module _ (m pc c h : ℕ) where
     pub starts_later : pc < handler_from p m h → catches p m pc c h ≡ false
@@ -66,29 +63,22 @@ module _ (p : Program) where
 
   module _ (m pc c : ℕ) where
     -- one number more is asked, and one that fits is the latest
-    pub handler_fits : (h : ℕ) → catches p m pc c h ≡ true → handling_of (last (suc h) (catches p m pc c)) ≡ Caught h
+    pub handler_fits : (h : ℕ) → catches p m pc c h ≡ true → last (suc h) (catches p m pc c) ≡ Some h
     handler_fits h e = rw e
 
     pub handler_passed : (h : ℕ) → catches p m pc c h ≡ false → last (suc h) (catches p m pc c) ≡ last h (catches p m pc c)
     handler_passed h e = rw e
 
     pub handler_found : (i : ℕ) → i < handler_count p m → ((k : ℕ) → i < k → k < handler_count p m → catches p m pc c k ≡ false)
-        → catches p m pc c i ≡ true → handler_for p m pc c ≡ Caught i
+        → catches p m pc c i ≡ true → handler_for p m pc c ≡ Some i
     unfolding handler_for
-    handler_found i l after e = ap handling_of (last_stop (handler_count p m) (catches p m pc c) i l after e)
+    handler_found i l after e = last_stop (handler_count p m) (catches p m pc c) i l after e
 
-    pub handler_missing : ((k : ℕ) → k < handler_count p m → catches p m pc c k ≡ false) → handler_for p m pc c ≡ Uncaught
+    pub handler_missing : ((k : ℕ) → k < handler_count p m → catches p m pc c k ≡ false) → handler_for p m pc c ≡ None
     unfolding handler_for
-    handler_missing fails = ap handling_of (last_none (handler_count p m) (catches p m pc c) fails)
+    handler_missing fails = last_none (handler_count p m) (catches p m pc c) fails
 
     -- "the highest number that fits": one that is answered fits, and no higher one does
-    pub handler_highest : (h : ℕ) → handler_for p m pc c ≡ Caught h → Last (handler_count p m) (catches p m pc c) h
+    pub handler_highest : (h : ℕ) → handler_for p m pc c ≡ Some h → Last (handler_count p m) (catches p m pc c) h
     unfolding handler_for
-    handler_highest h e = by (last (handler_count p m) (catches p m pc c)) refl e
-      where
-        by : (r : Option ℕ) → last (handler_count p m) (catches p m pc c) ≡ r → handling_of r ≡ Caught h
-            → Last (handler_count p m) (catches p m pc c) h
-        by none q f = let z : ◌≡◌ {A = ℕ} 0 1 = cc in absurd (omega arith)
-        by (some i) q f =
-            let same : i ≡ h = cc in
-            rw (← same) (last_some (handler_count p m) (catches p m pc c) i q)
+    handler_highest h e = last_some (handler_count p m) (catches p m pc c) h e

@@ -6,13 +6,11 @@ use Prim.Native.Nat.{ℕ, zero, suc, ◌≤◌, ◌<◌, zero-le}
 use native.Mathlib.Omega.{arith}
 use lib.Dec.{eqb, ltb}
 use borrow.Author.Tests.{ltb-true, lt-ltb, le-ltb, eqb-true, eqb-false, eq-eqb, ne_eqb}
+use Rattle.std.specs.Prelude.{Option, Some, None}
+use Rattle.std.specs.Option.{option_or}
 use Rattle.instruction.specs.Word.{pick}
-use Rattle.search.specs.declared.Callee.{Callee}
-use Rattle.search.specs.declared.Callee.TheVariants.{Found, Missing}
 use Rattle.program.specs.Program.{Program, superclass}
-use Rattle.search.specs.Search.{below_in, below, method_in, or_upward, callee_in, virtual_callee}
-use Rattle.search.specs.Number.{callee_number}
-use Rattle.search.proofs.Numbers.{number_missing}
+use Rattle.search.specs.Search.{below_in, below, method_in, callee_in, virtual_callee}
 
 -- an answer by steps: `own c rest` at class c, where the rest is the answer from above, or `none` where the way ends
 module _ {A : Type 0} (up : ℕ → ℕ) (own : ℕ → A → A) (none : A) (answer : ℕ → ℕ → A)
@@ -52,13 +50,9 @@ and_pick : (b c : Bool) → b && c ≡ pick b c false
 and_pick true c = refl
 and_pick false c = refl
 
-or_missing : (r : Callee) → r ≡ or_upward r Missing
-or_missing (Found m) = refl
-or_missing Missing = refl
-
-or_own : (r other : Callee) → (callee_number r ≡ 0 → ⊥) → or_upward r other ≡ r
-or_own (Found m) other has = refl
-or_own Missing other has = absurd (has refl)
+or_missing : (r : Option ℕ) → r ≡ option_or r None
+or_missing (Some m) = refl
+or_missing None = refl
 
 and_unless : (b c : Bool) → (b ≡ true → c ≡ false) → b && c ≡ false
 and_unless true c h = h refl
@@ -106,26 +100,22 @@ module _ (p : Program) where
       below_end l = rw (below_step, ne_eqb c top other, le-ltb (superclass p c) c (rw e at l))
 
   module _ (c name count : ℕ) where
-    pub callee_step : virtual_callee p c name count ≡ or_upward (method_in p c name count) (pick (ltb (superclass p c) c) (virtual_callee p (superclass p c) name count) Missing)
+    pub callee_step : virtual_callee p c name count ≡ option_or (method_in p c name count) (pick (ltb (superclass p c) c) (virtual_callee p (superclass p c) name count) None)
     unfolding callee_in
     callee_step =
-        one_step (superclass p) (λ k r. or_upward (method_in p k name count) r) Missing (λ n k. callee_in n p k name count)
+        one_step (superclass p) (λ k r. option_or (method_in p k name count) r) None (λ n k. callee_in n p k name count)
         (λ k. or_missing (method_in p k name count))
         (λ n k. refl)
         c
 
-    -- by the number of the method that class c itself has
-    module _ (found : ℕ) (own : found ≡ callee_number (method_in p c name count)) where
-      pub callee_own : (found ≡ 0 → ⊥) → found ≡ callee_number (virtual_callee p c name count)
-      callee_own has = own ∙ ap callee_number (sym (callee_step ∙ or_own (method_in p c name count) _ (λ e. has (own ∙ e))))
+    -- class c itself has one
+    pub callee_own : (m : ℕ) → method_in p c name count ≡ Some m → virtual_callee p c name count ≡ Some m
+    callee_own m e = rw (callee_step, e)
 
-      -- where it has none, of superclass s
-      module _ (lacks : found ≡ 0) (s : ℕ) (e : s ≡ superclass p c) where
-        missing : method_in p c name count ≡ Missing
-        missing = number_missing (method_in p c name count) found own lacks
+    -- it has none, and its superclass is s
+    module _ (missing : method_in p c name count ≡ None) (s : ℕ) (e : s ≡ superclass p c) where
+      pub callee_above : s < c → virtual_callee p c name count ≡ virtual_callee p s name count
+      callee_above l = rw (e, callee_step, missing, lt-ltb (superclass p c) c (rw e at l))
 
-        pub callee_above : s < c → virtual_callee p c name count ≡ virtual_callee p s name count
-        callee_above l = rw (e, callee_step, missing, lt-ltb (superclass p c) c (rw e at l))
-
-        pub callee_end : c ≤ s → virtual_callee p c name count ≡ Missing
-        callee_end l = rw (callee_step, missing, le-ltb (superclass p c) c (rw e at l))
+      pub callee_end : c ≤ s → virtual_callee p c name count ≡ None
+      callee_end l = rw (callee_step, missing, le-ltb (superclass p c) c (rw e at l))

@@ -1,11 +1,8 @@
 -- Handlers by their lines, from 0 in the order of the text, as document 01 speaks of them: no number is in it. The search by number
 -- comes to the same, which proofs/FirstLine says. Definitions only.
-use Rattle.std.specs.Prelude.{Bool, ◌&&◌, ℕ, ◌/◌, ◌%◌, ltb, leb, get_or}
-use Rattle.std.proofs.Math.Option.{Option, none, some}
+use Rattle.std.specs.Prelude.{Bool, ◌&&◌, ℕ, ◌/◌, ◌%◌, ltb, leb, get_or, Option, option_map}
 use Rattle.program.specs.Lists.{first}
 use Rattle.program.specs.Program.{Program, method_at, handler_count, handler_target}
-use Rattle.search.specs.declared.Handling.{Handling}
-use Rattle.search.specs.declared.Handling.TheVariants.{Caught, Uncaught}
 use Rattle.search.specs.Search.{below}
 
 -- the fields f t g c of line i of method m's handlers
@@ -26,6 +23,5 @@ abbrev pub first_line : Program → ℕ → ℕ → ℕ → Option ℕ
 first_line p m pc c = first (handler_count p m) (line_fits p m pc c)
 
 -- the address that a handler goes to, where there is one
-abbrev pub target_of : Program → ℕ → Handling → Option ℕ
-target_of p m (Caught h) = some (handler_target p m h)
-target_of p m Uncaught = none
+abbrev pub target_of : Program → ℕ → Option ℕ → Option ℕ
+target_of p m = option_map (handler_target p m)

@@ -1,12 +1,8 @@
 -- The searches that checker and stepper share: superclass test, fields of a class, virtual search, handler search. Definitions
 -- only.
-use Rattle.std.specs.Prelude.{Bool, ◌&&◌, ◌||◌, ℕ, zero, suc, eqb, ltb, leb}
-use Rattle.std.proofs.Math.Option.{Option, none, some}
+use Rattle.std.specs.Prelude.{Bool, ◌&&◌, ◌||◌, ℕ, zero, suc, eqb, ltb, leb, Option, None}
+use Rattle.std.specs.Option.{option_or}
 use Rattle.instruction.specs.Word.{pick}
-use Rattle.search.specs.declared.Callee.{Callee}
-use Rattle.search.specs.declared.Callee.TheVariants.{Found, Missing}
-use Rattle.search.specs.declared.Handling.{Handling}
-use Rattle.search.specs.declared.Handling.TheVariants.{Caught, Uncaught}
 use Rattle.program.specs.Lists.{first, last}
 use Rattle.program.specs.Program.{Program, superclass, field_count, field_class, method_count, method_class, method_name, method_kind, arguments, handler_count, handler_from, handler_to, handler_class}
 
@@ -30,27 +26,19 @@ answers p c name count m =
     eqb (method_class p m) c
     && (eqb (method_name p m) name && (eqb (method_kind p m) 0 && eqb (arguments p m) count))
 
-abbrev pub callee_of : Option ℕ → Callee
-callee_of none = Missing
-callee_of (some m) = Found m
-
 -- the method of class c itself that a virtual call leads to
-unfoldable pub method_in : Program → ℕ → ℕ → ℕ → Callee
-method_in p c name count = callee_of (first (method_count p) (answers p c name count))
-
-abbrev pub or_upward : Callee → Callee → Callee
-or_upward (Found m) other = Found m
-or_upward Missing other = other
+unfoldable pub method_in : Program → ℕ → ℕ → ℕ → Option ℕ
+method_in p c name count = first (method_count p) (answers p c name count)
 
 -- the same in class c, then upward, where n steps are enough
-unfoldable pub callee_in : ℕ → Program → ℕ → ℕ → ℕ → Callee
+unfoldable pub callee_in : ℕ → Program → ℕ → ℕ → ℕ → Option ℕ
 callee_in zero p c name count = method_in p c name count
 callee_in (suc n) p c name count =
-    or_upward (method_in p c name count)
-    (pick (ltb (superclass p c) c) (callee_in n p (superclass p c) name count) Missing)
+    option_or (method_in p c name count)
+    (pick (ltb (superclass p c) c) (callee_in n p (superclass p c) name count) None)
 
 -- "Virtual calls look for name, argument count and kind 0 in the receiver's class, then upward"
-abbrev pub virtual_callee : Program → ℕ → ℕ → ℕ → Callee
+abbrev pub virtual_callee : Program → ℕ → ℕ → ℕ → Option ℕ
 virtual_callee p c name count = callee_in c p c name count
 
 -- "covers f ≤ address < t .. catches c and below"
@@ -58,11 +46,7 @@ unfoldable pub catches : Program → ℕ → ℕ → ℕ → ℕ → Bool
 catches p m pc c h =
     leb (handler_from p m h) pc && (ltb pc (handler_to p m h) && below p c (handler_class p m h))
 
-abbrev pub handling_of : Option ℕ → Handling
-handling_of none = Uncaught
-handling_of (some h) = Caught h
-
 -- document 02, note 3: "the search to go by rising number. It answers the highest number that fits .. and none just when none
 -- fits": the handler of method m at address pc for an exception of class c
-unfoldable pub handler_for : Program → ℕ → ℕ → ℕ → Handling
-handler_for p m pc c = handling_of (last (handler_count p m) (catches p m pc c))
+unfoldable pub handler_for : Program → ℕ → ℕ → ℕ → Option ℕ
+handler_for p m pc c = last (handler_count p m) (catches p m pc c)

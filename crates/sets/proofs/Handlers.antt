@@ -2,26 +2,20 @@
 -- leave, what it takes of that, and what none takes. Assumes nothing.
 use mathlib.Core.Path.{◌≡◌, refl, sym, ap, ◌∙◌}
 use mathlib.Core.Bool.{Bool, true, false, not, ◌&&◌}
-use mathlib.Core.List.{List}
 use Prim.Native.Nat.{ℕ, suc, ◌+◌, ◌-◌, ◌≤◌, ◌<◌}
 use native.Mathlib.Nat.{add-zero}
 use native.Mathlib.Omega.{arith}
 use lib.Dec.{ltb}
 use borrow.Author.Tests.{lt-ltb, ltb-true}
+use Rattle.std.specs.Prelude.{Some, None}
 use Rattle.text.proofs.Cases.{by_test, both_true}
 use Rattle.mask.specs.declared.Mask.{Mask}
 use Rattle.mask.specs.Mask.{has, every}
 use Rattle.mask.proofs.Laws.{every_at, every_same}
 use Rattle.mask.proofs.Sets.{and_end}
 use Rattle.program.specs.Program.{Program, class_count, handler_count}
-use Rattle.program.specs.Tables.{program_in}
-use Rattle.program.proofs.Read.{classes_limit}
-use Rattle.search.specs.declared.Handling.TheVariants.{Caught, Uncaught}
 use Rattle.search.specs.Search.{catches, handler_for}
 use Rattle.search.proofs.Searches.{handler_found, handler_missing}
-use Rattle.sets.specs.Sets.{sets_of}
-use Rattle.sets.specs.Inside.{class_set}
-use Rattle.sets.proofs.Words.{classes_has}
 
 not_true_false : (a : Bool) → not a ≡ true → a ≡ false
 not_true_false true e = sym e
@@ -40,12 +34,7 @@ leaves_rest true true false false = refl
 leaves_rest true false b t = refl
 leaves_rest false l b t = refl
 
--- ---- the classes of the program, and those of them in a mask
-pub all_classes : (t s : List ℕ) (classes : Mask) → classes ≡ class_set s → s ≡ sets_of (program_in t)
-    → (k : ℕ) → has classes k ≡ ltb k (class_count (program_in t))
-all_classes t s classes e made k =
-    ap (λ (x : Mask). has x k) e ∙ ap (λ (ws : List ℕ). has (class_set ws) k) made ∙ classes_has (program_in t) (classes_limit t) k
-
+-- ---- the classes of the program in a mask
 module _ (p : Program) (mask rest classes : Mask) (bits : (k : ℕ) → has rest k ≡ has mask k && has classes k)
     (all : (k : ℕ) → has classes k ≡ ltb k (class_count p)) where
   pub only_classes : (k : ℕ) → has rest k ≡ true → k < class_count p
@@ -85,7 +74,7 @@ module _ (p : Program) (m pc : ℕ) where
       (every_at (handler_count p m - h) (λ j. not (catches p m pc k (h + j))) e (i - h) (omega arith)))
 
   -- a class that no handler catches
-  pub uncaught : (k : ℕ) → passed 0 k ≡ true → handler_for p m pc k ≡ Uncaught
+  pub uncaught : (k : ℕ) → passed 0 k ≡ true → handler_for p m pc k ≡ None
   uncaught k e = handler_missing p m pc k (λ i l. none_after 0 k e i (omega arith) l)
 
 module _ (p : Program) (m pc : ℕ) (mask : Mask) where
@@ -108,14 +97,14 @@ module _ (p : Program) (m pc : ℕ) (mask : Mask) where
         ∙ rw (bits k, so_far k, more_passed p m pc h k l)
         (leaves_rest (has mask k) (ltb k (class_count p)) (passed p m pc (h + 1) k) (catches p m pc k h))
 
-    here : (k : ℕ) → passed p m pc (h + 1) k ≡ true → catches p m pc k h ≡ true → handler_for p m pc k ≡ Caught h
+    here : (k : ℕ) → passed p m pc (h + 1) k ≡ true → catches p m pc k h ≡ true → handler_for p m pc k ≡ Some h
     here k before e = handler_found p m pc k h l (λ i a b. none_after p m pc (h + 1) k before i (omega arith) b) e
 
     -- a class that it takes
     pub record Taken (k : ℕ) : Type 0 where
       pub within : k < class_count p
       pub in_mask : has mask k ≡ true
-      pub handler : handler_for p m pc k ≡ Caught h
+      pub handler : handler_for p m pc k ≡ Some h
 
     pub is_taken_lem : (k : ℕ) → has taken k ≡ true → Taken k
     is_taken_lem k e =
@@ -130,7 +119,7 @@ module _ (p : Program) (m pc : ℕ) (mask : Mask) where
 
     -- a class that a handler from h on catches, and none after h in number, is one that h takes
     pub taken_now : (k : ℕ) → k < class_count p → has mask k ≡ true → passed p m pc (h + 1) k ≡ true → passed p m pc h k ≡ false
-        → (has taken k ≡ true) × (handler_for p m pc k ≡ Caught h)
+        → (has taken k ≡ true) × (handler_for p m pc k ≡ Some h)
     taken_now k less e before f =
         let caught = first_fails (catches p m pc k h) (passed p m pc (h + 1) k) before (sym (more_passed p m pc h k l) ∙ f) in
         (bits k ∙ rw (so_far k, e, before, caught, lt-ltb k (class_count p) less), here k before caught)
@@ -140,7 +129,7 @@ module _ (p : Program) (m pc : ℕ) (mask : Mask) where
     pub in_rest : (k : ℕ) → k < class_count p → has mask k ≡ true → passed p m pc 0 k ≡ true → has rest k ≡ true
     in_rest k l e z = left k ∙ rw (e, lt-ltb k (class_count p) l, z)
 
-    pub rest_uncaught : (k : ℕ) → has rest k ≡ true → (k < class_count p) × (has mask k ≡ true) × (handler_for p m pc k ≡ Uncaught)
+    pub rest_uncaught : (k : ℕ) → has rest k ≡ true → (k < class_count p) × (has mask k ≡ true) × (handler_for p m pc k ≡ None)
     rest_uncaught k r =
         let (a, z) = both_true (has mask k && ltb k (class_count p)) (passed p m pc 0 k) (sym (left k) ∙ r) in
         let (e, l) = both_true (has mask k) (ltb k (class_count p)) a in

@@ -1,15 +1,14 @@
 -- The classes in a mask that lead to a method, as a set. Assumes nothing.
-use mathlib.Core.Path.{◌≡◌, refl, sym, ap, ◌∙◌}
+use mathlib.Core.Path.{◌≡◌, refl, sym, ◌∙◌}
 use mathlib.Core.Bool.{Bool, true, false, false≢true, not, ◌&&◌, ◌||◌}
-use mathlib.Core.List.{List}
-use Prim.Native.Nat.{ℕ, ◌≤◌, ◌<◌}
+use Prim.Native.Nat.{ℕ, ◌<◌}
 use lib.Dec.{ltb}
 use borrow.Author.Tests.{lt-ltb, ltb-true}
 use Rattle.text.proofs.Cases.{by_test}
 use Rattle.instruction.proofs.Flags.{both_true, if_use, if_true}
 use Rattle.mask.specs.declared.Mask.{Mask}
-use Rattle.mask.specs.Mask.{has, every, subset}
-use Rattle.mask.proofs.Laws.{same_test, every_at, every_all, subset_at, subset_all}
+use Rattle.mask.specs.Mask.{has, every, is_empty, subset}
+use Rattle.mask.proofs.Laws.{same_test, every_at, every_all, empty_subset, subset_at, subset_all}
 use Rattle.mask.proofs.Sets.{no_bit}
 use Rattle.program.specs.Program.{Program, class_count, method_count}
 use Rattle.search.specs.Search.{virtual_callee}
@@ -17,9 +16,7 @@ use Rattle.machine.proofs.Found.{callee_fits}
 use Rattle.flow.specs.Flows.{some, is_found}
 use Rattle.flow.proofs.Callees.{some_at, some_one, found_is}
 use Rattle.slots.specs.Layout.{mask_of}
-use Rattle.sets.specs.Sets.{leads_to, sets_of}
-use Rattle.sets.specs.Inside.{named, leading_set}
-use Rattle.sets.proofs.Words.{leading_has}
+use Rattle.sets.specs.Sets.{leads_to}
 
 -- ---- the set of the numbers below n that pass a test
 module _ (n : ℕ) (r : Mask) (test : ℕ → Bool) (bits : (k : ℕ) → has r k ≡ ltb k n && test k) where
@@ -55,7 +52,7 @@ module _ (n : ℕ) (r : Mask) (test : ℕ → Bool) (bits : (k : ℕ) → has r 
       let (l, g) = both_true (ltb k n) (test k) (sym (bits k) ∙ h) in
       absurd (false≢true (sym t ∙ some_at n test k (ltb-true k n l) g))))))
 
-swap_first : (a b c : Bool) → a && (b && c) ≡ b && (a && c)
+pub swap_first : (a b c : Bool) → a && (b && c) ≡ b && (a && c)
 swap_first true b c = refl
 swap_first false true c = refl
 swap_first false false c = refl
@@ -65,15 +62,6 @@ module _ (p : Program) (mask : Mask) (name count q : ℕ) where
   abbrev pub to : ℕ → Bool
   to k = has mask k && is_found (virtual_callee p k name count) q
 
-  pub receivers_are : class_count p ≤ 60 → method_count p ≤ 16 → (s : List ℕ) → s ≡ sets_of p → (r : Mask)
-      → ((k : ℕ) → has r k ≡ has mask k && (named p name count q && has (leading_set s q) k))
-      → (k : ℕ) → has r k ≡ ltb k (class_count p) && to k
-  receivers_are few small s e r bits k =
-      bits k
-      ∙ ap (λ (ws : List ℕ). has mask k && (named p name count q && has (leading_set ws q) k)) e
-      ∙ ap (◌&&◌ (has mask k)) (leading_has p few small name count q k)
-      ∙ swap_first (has mask k) (ltb k (class_count p)) (is_found (virtual_callee p k name count) q)
-
   module _ (r : Mask) (bits : (k : ℕ) → has r k ≡ ltb k (class_count p) && to k) where
     pub none_lead : subset r (mask_of 0) ≡ true → leads_to p mask name count q ≡ false
     unfolding leads_to
@@ -82,6 +70,13 @@ module _ (p : Program) (mask : Mask) (name count q : ℕ) where
     pub one_leads : subset r (mask_of 0) ≡ false → leads_to p mask name count q ≡ true
     unfolding leads_to
     one_leads one = set_some (class_count p) r to bits one
+
+    -- the set is empty just where none does
+    pub not_empty_leads : not (is_empty r) ≡ leads_to p mask name count q
+    not_empty_leads =
+        by_test (subset r (mask_of 0))
+        (λ t. rw (empty_subset r (mask_of 0) no_bit, t) (sym (none_lead t)))
+        (λ t. rw (empty_subset r (mask_of 0) no_bit, t) (sym (one_leads t)))
 
   -- only methods of the program are led to
   pub leads_few : leads_to p mask name count q ≡ true → q < method_count p

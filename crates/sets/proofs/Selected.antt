@@ -1,7 +1,6 @@
 -- The classes in a mask that are at or below a class, and those that have a field. Assumes nothing.
 use mathlib.Core.Path.{◌≡◌, sym, ap, ◌∙◌}
 use mathlib.Core.Bool.{false, ◌&&◌}
-use mathlib.Core.List.{List}
 use Prim.Native.Nat.{ℕ, ◌≤◌, ◌<◌}
 use native.Mathlib.Omega.{arith}
 use lib.Dec.{ltb}
@@ -11,14 +10,9 @@ use Rattle.text.proofs.Cases.{by_test}
 use Rattle.mask.specs.declared.Mask.{Mask}
 use Rattle.mask.specs.Mask.{has}
 use Rattle.program.specs.Program.{Program, class_count, field_count, field_class}
-use Rattle.program.specs.Tables.{program_in}
-use Rattle.program.proofs.Read.{classes_limit}
 use Rattle.search.specs.Search.{below, has_field}
 use Rattle.search.proofs.Searches.{has_field_in, has_field_out}
-use Rattle.sets.specs.Sets.{sets_of}
-use Rattle.sets.specs.Inside.{below_set}
 use Rattle.search.proofs.Upward.{below_less}
-use Rattle.sets.proofs.Words.{below_has}
 
 module _ (p : Program) (few : class_count p ≤ 60) (k x : ℕ) where
   -- a field that the program does not have is of class 255
@@ -28,7 +22,7 @@ module _ (p : Program) (few : class_count p ≤ 60) (k x : ℕ) where
       below_less p k (field_class p x) (omega (arith, far))
 
   -- a class has a field where it is at or below the field's class
-  having : ltb k (class_count p) && below p k (field_class p x) ≡ ltb k (class_count p) && has_field p k x
+  pub having : ltb k (class_count p) && below p k (field_class p x) ≡ ltb k (class_count p) && has_field p k x
   having =
       by_test (ltb x (field_count p))
       (λ t. ap (◌&&◌ (ltb k (class_count p))) (sym (has_field_in p k x (ltb-true x (field_count p) t))))
@@ -39,19 +33,15 @@ module _ (p : Program) (few : class_count p ≤ 60) (k x : ℕ) where
       ap (◌&&◌ (ltb k (class_count p))) (no_class_lem out (ltb-true k (class_count p) h) ∙ sym (has_field_out p k x out)))
       (λ h. rw h))
 
-module _ (t s : List ℕ) (made : s ≡ sets_of (program_in t)) (mask own set : Mask)
-    (bits : (k : ℕ) → has set k ≡ has mask k && has own k) where
-  pub below_in_lem : (c : ℕ) → own ≡ below_set s c
-      → (k : ℕ) → has set k ≡ has mask k && (ltb k (class_count (program_in t)) && below (program_in t) k c)
-  below_in_lem c e k =
-      bits k
-      ∙ ap (λ (m : Mask). has mask k && has m k) e
-      ∙ ap (λ (ws : List ℕ). has mask k && has (below_set ws c) k) made
-      ∙ ap (◌&&◌ (has mask k)) (below_has (program_in t) (classes_limit t) c k)
+-- a mask of those in another that are in a set: of the classes at or below a class, and of a field's class
+module _ (p : Program) (mask own set : Mask) (bits : (k : ℕ) → has set k ≡ has mask k && has own k) (c : ℕ)
+    (at_or_below : (k : ℕ) → has own k ≡ ltb k (class_count p) && below p k c) (k : ℕ) where
+  pub below_in_lem : has set k ≡ has mask k && (ltb k (class_count p) && below p k c)
+  below_in_lem = bits k ∙ ap (◌&&◌ (has mask k)) (at_or_below k)
 
-  pub having_in : (c x : ℕ) → c ≡ field_class (program_in t) x → own ≡ below_set s c
-      → (k : ℕ) → has set k ≡ has mask k && (ltb k (class_count (program_in t)) && has_field (program_in t) k x)
-  having_in c x is e k =
-      below_in_lem c e k
-      ∙ ap (λ (i : ℕ). has mask k && (ltb k (class_count (program_in t)) && below (program_in t) k i)) is
-      ∙ ap (◌&&◌ (has mask k)) (having (program_in t) (classes_limit t) k x)
+  pub having_in : (few : class_count p ≤ 60) (x : ℕ) → c ≡ field_class p x
+      → has set k ≡ has mask k && (ltb k (class_count p) && has_field p k x)
+  having_in few x is =
+      below_in_lem
+      ∙ ap (λ (i : ℕ). has mask k && (ltb k (class_count p) && below p k i)) is
+      ∙ ap (◌&&◌ (has mask k)) (having p few k x)

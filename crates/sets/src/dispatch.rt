@@ -15,13 +15,9 @@ use mask::Mask;
 pub fn is_named(t: &[u64; 768], name: usize, count: usize, m: usize) -> bool
     ensures value { result ≡ named (program_in t.now) name count m }
 {
-    if program::method_name(t, m) != name {
-        return false;
-    }
-    if program::method_kind(t, m) != 0 {
-        return false;
-    }
-    program::arguments(t, m) == count
+    program::method_name(t, m) == name
+        && program::method_kind(t, m) == 0
+        && program::arguments(t, m) == count
 }
 
 // The classes that themselves have a virtual method with this name and argument count.
@@ -29,16 +25,13 @@ fn owners(t: &[u64; 768], name: usize, count: usize) -> Mask
     ensures bits { let p = program_in t.now in
         ((k : ℕ) → k < 64 → has result k ≡ some (method_count p) (answers p k name count)) }
 {
-    let n = program::method_count(t);
-    let mut set = Mask { bits: 0 };
-    let mut m: usize = 0;
-    while m < n {
+    let mut set = Mask::empty();
+    for m in 0..program::method_count(t) {
         set = add(
             set,
             program::method_class(t, m),
             is_named(t, name, count, m),
         );
-        m += 1;
     }
     set
 }
@@ -47,11 +40,7 @@ fn owners(t: &[u64; 768], name: usize, count: usize) -> Mask
 fn owns(t: &[u64; 768], c: usize, name: usize, count: usize, q: usize) -> bool
     ensures value { result ≡ is_found (method_in (program_in t.now) c name count) q }
 {
-    let found = search::method_in(t, c, name, count);
-    if found == 0 {
-        return false;
-    }
-    found - 1 == q
+    search::method_in(t, c, name, count) == Some(q)
 }
 
 // Whether class k leads where class c does by a method of its own, where the superclasses in the set do.
@@ -59,7 +48,7 @@ fn is_leading(t: &[u64; 768], set: Mask, owners: Mask, own: bool, c: usize, k: u
     ensures value { result ≡ leads_by (program_in t.now) set owners own c k }
 {
     if owners.has(k) {
-        if own { k == c } else { false }
+        own && k == c
     } else {
         above_in(t, set, k)
     }
@@ -70,17 +59,14 @@ pub fn leading_set(t: &[u64; 768], q: usize) -> Mask
     ensures bits { let p = program_in t.now in
         ((k : ℕ) → has result k ≡ ltb k (class_count p) && leads p q k) }
 {
-    let n = program::class_count(t);
     let name = program::method_name(t, q);
     let count = program::arguments(t, q);
     let c = program::method_class(t, q);
     let others = owners(t, name, count);
     let own = owns(t, c, name, count, q);
-    let mut set = Mask { bits: 0 };
-    let mut k: usize = 0;
-    while k < n {
+    let mut set = Mask::empty();
+    for k in 0..program::class_count(t) {
         set = add(set, k, is_leading(t, set, others, own, c, k));
-        k += 1;
     }
     set
 }

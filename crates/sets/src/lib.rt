@@ -1,5 +1,5 @@
 // Sets of a program's classes, made once a check: of each class those at or below it, of each method those that lead to it. Every
-// function takes any tables and words.
+// function takes any tables.
 #![tactic(auto)]
 
 mod dispatch; // dispatch.rt: of each method the classes that lead to it
@@ -8,11 +8,101 @@ ghost use Rattle.std.specs.Prelude.{◌≡◌, ◌&&◌, ◌||◌, ℕ, ◌<◌,
 ghost use Rattle.mask.specs.Mask.{has};
 ghost use Rattle.program.specs.Program.{class_count};
 ghost use Rattle.program.specs.Tables.{program_in};
-ghost use Rattle.search.specs.Search.{below, has_field, catches};
+ghost use Rattle.search.specs.Search.{below, has_field, catches, virtual_callee};
+ghost use Rattle.flow.specs.Flows.{is_found};
 ghost use Rattle.sets.specs.Sets.{set_word, fails_cast, sets_of};
-ghost use Rattle.sets.specs.Inside.{above_in, below_by, named, below_set, class_set, leading_set};
+ghost use Rattle.sets.specs.Inside.{above_in, below_by};
 
 use mask::Mask;
+use std::array;
+
+// A program's tables and the sets of its classes, made of them.
+#[derive(Drop)]
+pub struct Sets<'a> {
+    pub tables: &'a [u64; 768],
+    words: [u64; 80],
+    pub ghost made: { words ≡ sets_of (program_in tables.now) },
+}
+
+impl<'a> Sets<'a> {
+    // The sets of the program in tables.
+    pub fn of(tables: &'a [u64; 768]) -> Self
+        ensures tables { result.tables.now ≡ tables.now }
+    {
+        Self {
+            tables,
+            words: array::from_fn(|j| set_word(tables, j)),
+        }
+    }
+
+    // The set of all classes.
+    pub fn classes(&self) -> Mask
+        ensures bits { (k : ℕ) → has result k ≡ ltb k (class_count (program_in self.now.tables.now)) }
+    {
+        Mask {
+            bits: self.words[60],
+        }
+    }
+
+    // The set of the classes at or below class c.
+    pub fn below(&self, c: usize) -> Mask
+        ensures bits { let p = program_in self.now.tables.now in
+            ((k : ℕ) → has result k ≡ ltb k (class_count p) && below p k c) }
+    {
+        if c < 60 {
+            Mask {
+                bits: self.words[c],
+            }
+        } else {
+            Mask::empty()
+        }
+    }
+
+    // The classes in a mask that have a field.
+    pub fn with_field(&self, mask: Mask, field: u8) -> Mask
+        ensures bits { let p = program_in self.now.tables.now in
+            ((k : ℕ) → has result k ≡ has mask k && (ltb k (class_count p) && has_field p k field)) }
+    {
+        mask.common(self.below(program::field_class(self.tables, field as usize)))
+    }
+
+    // Whether a class in a mask is not at or below class c.
+    pub fn fails_cast(&self, mask: Mask, c: usize) -> bool
+        ensures value { result ≡ fails_cast (program_in self.now.tables.now) mask c }
+    {
+        !mask
+            .common(self.classes())
+            .without(self.below(c))
+            .is_empty()
+    }
+
+    // The classes in a mask that handler h catches at an address.
+    pub fn caught(&self, m: usize, pc: usize, mask: Mask, h: usize) -> Mask
+        ensures bits { let p = program_in self.now.tables.now in
+            ((k : ℕ) → has result k ≡ has mask k && (ltb k (class_count p) && catches p m pc k h)) }
+    {
+        let t = self.tables;
+        if program::handler_from(t, m, h) <= pc && pc < program::handler_to(t, m, h) {
+            mask.common(self.below(program::handler_class(t, m, h)))
+        } else {
+            Mask::empty()
+        }
+    }
+
+    // The classes in a mask that lead to method q, called by this name and argument count.
+    pub fn leading(&self, mask: Mask, name: usize, count: usize, q: usize) -> Mask
+        ensures bits { let p = program_in self.now.tables.now in
+            ((k : ℕ) → has result k ≡ ltb k (class_count p) && (has mask k && is_found (virtual_callee p k name count) q)) }
+    {
+        if q < 16 && dispatch::is_named(self.tables, name, count, q) {
+            mask.common(Mask {
+                bits: self.words[64 + q],
+            })
+        } else {
+            Mask::empty()
+        }
+    }
+}
 
 // The set, with class k if it is to be in it.
 pub fn add(set: Mask, k: usize, is_in: bool) -> Mask
@@ -26,14 +116,14 @@ fn above_in(t: &[u64; 768], set: Mask, k: usize) -> bool
     ensures value { result ≡ above_in (program_in t.now) set k }
 {
     let s = program::superclass(t, k);
-    if s < k { set.has(s) } else { false }
+    s < k && set.has(s)
 }
 
 // Whether class k is class j, or its superclass is in the set.
 fn is_below(t: &[u64; 768], set: Mask, j: usize, k: usize) -> bool
     ensures value { result ≡ below_by (program_in t.now) set j k }
 {
-    if k == j { true } else { above_in(t, set, k) }
+    k == j || above_in(t, set, k)
 }
 
 // The classes at or below class j. No class before it is.
@@ -41,12 +131,9 @@ fn below_set(t: &[u64; 768], j: usize) -> Mask
     ensures bits { let p = program_in t.now in
         ((k : ℕ) → has result k ≡ ltb k (class_count p) && below p k j) }
 {
-    let n = program::class_count(t);
-    let mut set = Mask { bits: 0 };
-    let mut k = j;
-    while k < n {
+    let mut set = Mask::empty();
+    for k in j..program::class_count(t) {
         set = add(set, k, is_below(t, set, j, k));
-        k += 1;
     }
     set
 }
@@ -55,12 +142,9 @@ fn below_set(t: &[u64; 768], j: usize) -> Mask
 fn class_set(t: &[u64; 768]) -> Mask
     ensures bits { (k : ℕ) → has result k ≡ ltb k (class_count (program_in t.now)) }
 {
-    let n = program::class_count(t);
-    let mut set = Mask { bits: 0 };
-    let mut k: usize = 0;
-    while k < n {
-        set = add(set, k, true);
-        k += 1;
+    let mut set = Mask::empty();
+    for k in 0..program::class_count(t) {
+        set = set.with(k);
     }
     set
 }
@@ -69,105 +153,9 @@ fn class_set(t: &[u64; 768]) -> Mask
 fn set_word(t: &[u64; 768], j: usize) -> u64
     ensures value { result ≡ set_word (program_in t.now) j }
 {
-    if j < 60 {
-        below_set(t, j).bits
-    } else if j < 64 {
-        class_set(t).bits
-    } else {
-        dispatch::leading_set(t, j - 64).bits
+    match j {
+        0..60 => below_set(t, j).bits,
+        60..64 => class_set(t).bits,
+        _ => dispatch::leading_set(t, j - 64).bits,
     }
-}
-
-// Makes the sets of the program in tables.
-pub fn fill(t: &[u64; 768], s: &mut [u64; 80])
-    ensures memory { s.new ≡ sets_of (program_in t.now) }
-{
-    let mut j: usize = 0;
-    while j < 80 {
-        slots::put(&mut *s, j, set_word(t, j));
-        j += 1;
-    }
-}
-
-fn element(ws: &[u64], i: usize) -> u64
-    ensures value { result ≡ get_or ws.now i 0 }
-{
-    if i < ws.len() { ws[i] } else { 0 }
-}
-
-// The set of the classes at or below class c.
-pub fn below(s: &[u64; 80], c: usize) -> Mask
-    ensures value { result ≡ below_set s.now c }
-{
-    if c < 60 {
-        Mask {
-            bits: element(s, c),
-        }
-    } else {
-        Mask { bits: 0 }
-    }
-}
-
-// The set of all classes.
-pub fn classes(s: &[u64; 80]) -> Mask
-    ensures value { result ≡ class_set s.now }
-{
-    Mask {
-        bits: element(s, 60),
-    }
-}
-
-// The classes in a mask that have a field.
-pub fn with_field(t: &[u64; 768], s: &[u64; 80], mask: Mask, field: u8) -> Mask
-    ensures bits { let p = program_in t.now in
-        (s.now ≡ sets_of p → (k : ℕ) → has result k ≡ has mask k && (ltb k (class_count p) && has_field p k field)) }
-{
-    mask.common(below(s, program::field_class(t, field as usize)))
-}
-
-// Whether a class in a mask is not at or below class c.
-pub fn fails_cast(t: &[u64; 768], s: &[u64; 80], mask: Mask, c: usize) -> bool
-    ensures value { let p = program_in t.now in
-        (s.now ≡ sets_of p → result ≡ fails_cast p mask c) }
-{
-    let inside = mask.common(classes(s));
-    let others = inside.without(below(s, c));
-    !others.subset(Mask { bits: 0 })
-}
-
-// The classes in a mask that handler h catches at an address.
-pub fn caught(t: &[u64; 768], s: &[u64; 80], m: usize, pc: usize, mask: Mask, h: usize) -> Mask
-    ensures bits { let p = program_in t.now in
-        (s.now ≡ sets_of p → (k : ℕ) → has result k ≡ has mask k && (ltb k (class_count p) && catches p m pc k h)) }
-{
-    if pc < program::handler_from(t, m, h) {
-        return Mask { bits: 0 };
-    }
-    if pc < program::handler_to(t, m, h) {
-        mask.common(below(s, program::handler_class(t, m, h)))
-    } else {
-        Mask { bits: 0 }
-    }
-}
-
-// The classes in a mask that lead to method q, called by this name and argument count.
-pub fn leading(
-    t: &[u64; 768],
-    s: &[u64; 80],
-    mask: Mask,
-    name: usize,
-    count: usize,
-    q: usize,
-) -> Mask
-    ensures bits { let p = program_in t.now in
-        ((k : ℕ) → has result k ≡ has mask k && (named p name count q && has (leading_set s.now q) k)) }
-{
-    if q < 16 {
-        if dispatch::is_named(t, name, count, q) {
-            return mask.common(Mask {
-                bits: element(s, 64 + q),
-            });
-        }
-    }
-    Mask { bits: 0 }
 }

@@ -1,4 +1,2 @@
--- What the proofs of several functions use.
-pub mod Decided
-pub mod Tags
+-- What the proofs of several functions use, here and in the crates above.
 pub mod Places

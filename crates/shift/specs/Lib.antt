@@ -1,3 +1,4 @@
 pub mod Places
 pub mod Shift
 pub mod Stay
+pub mod Kinds

@@ -1,10 +1,8 @@
 -- What a step comes to in lent slices that does not stay in its frame. Nothing here needs to be believed to read a promise of
 -- the stepper. Definitions only.
-use Rattle.std.specs.Prelude.{Bool, ℕ, ◌+◌, ◌-◌, ◌%◌, eqb, ltb, leb}
+use Rattle.std.specs.Prelude.{Bool, ℕ, ◌+◌, ◌-◌, ◌%◌, eqb, ltb, leb, Option, Some, None}
 use Rattle.instruction.specs.Word.{pick}
 use Rattle.program.specs.Program.{Program, registers, arguments, code_length, handler_target}
-use Rattle.search.specs.declared.Handling.{Handling}
-use Rattle.search.specs.declared.Handling.TheVariants as handling
 use Rattle.search.specs.Search.{handler_for}
 use Rattle.machine.specs.declared.Effect.{Effect}
 use Rattle.machine.specs.declared.Effect.TheVariants as effect
@@ -34,7 +32,7 @@ abbrev pub counted : Run → Tally → Run
 counted k t = record { left = next_left k.left; tally = t; stop = k.stop }
 
 abbrev pub stopped : Run → Stop → Run
-stopped k e = record { left = k.left; tally = k.tally; stop = e }
+stopped k e = record { left = k.left; tally = k.tally; stop = Some e }
 
 abbrev pub with_status : Run → Status → Run
 with_status k e = counted k (tallied k.tally.depth k.tally.made e)
@@ -189,8 +187,8 @@ pending_of (Uncaught o) = 0
 pending_of (Failed e) = 0
 
 -- the top frame's handler at its address takes it, or the frame is dropped
-abbrev pub unwound_by : Program → At → ℕ → ℕ → Handling → Shift
-unwound_by p h o m (handling.Caught j) =
+abbrev pub unwound_by : Program → At → ℕ → ℕ → Option ℕ → Shift
+unwound_by p h o m (Some j) =
     record {
       popped = nowhere;
       resumed = top_of h.run.tally.depth;
@@ -206,7 +204,7 @@ unwound_by p h o m (handling.Caught j) =
       method = 0;
       run = with_status h.run Running;
     }
-unwound_by p h o m handling.Uncaught =
+unwound_by p h o m None =
     record {
       popped = top_of h.run.tally.depth;
       resumed = nowhere;

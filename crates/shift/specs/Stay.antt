@@ -1,6 +1,6 @@
 -- Runs that stay in their frame, and what is asked of a run. Nothing here needs to be believed to read a promise of the stepper.
 -- Definitions only.
-use Rattle.std.specs.Prelude.{Bool, true, false, ◌&&◌, ◌||◌, ℕ, ◌+◌, ◌%◌, eqb, ltb}
+use Rattle.std.specs.Prelude.{Bool, true, false, ◌&&◌, ◌||◌, ℕ, ◌+◌, ◌%◌, eqb, ltb, is_none}
 use Rattle.instruction.specs.Word.{pick}
 use Rattle.program.specs.Program.{Program, code_length, word_at}
 use Rattle.site.specs.declared.Gone.{Gone}
@@ -13,7 +13,6 @@ use Rattle.turn.specs.declared.Status.TheVariants.{Running, Raised, Done, Uncaug
 use Rattle.shift.specs.declared.At.{At}
 use Rattle.shift.specs.declared.Run.{Run}
 use Rattle.shift.specs.declared.Stay.{Stay}
-use Rattle.shift.specs.declared.Stop.{Stop}
 use Rattle.shift.specs.declared.Stop.TheVariants as stop
 use Rattle.shift.specs.Places.{preceding_of, top_of}
 use Rattle.shift.specs.Shift.{stopped, with_status}
@@ -116,15 +115,9 @@ is_open Done = false
 is_open (Uncaught o) = false
 is_open (Failed e) = false
 
-abbrev pub is_no : Stop → Bool
-is_no stop.No = true
-is_no stop.Store = false
-is_no stop.Stack = false
-is_no stop.Outside = false
-
 -- a further step is to be made: nothing stopped the run, a step may still be made, and the run has not ended
 abbrev pub runs_on : Run → Bool
-runs_on k = is_no k.stop && ltb 0 k.left && is_open k.tally.status
+runs_on k = is_none k.stop && ltb 0 k.left && is_open k.tally.status
 
 -- return and return-void
 abbrev pub exits_of : At → Bool

@@ -5,7 +5,7 @@
 mod asks; // asks.rt: what is asked of a run
 mod counts; // counts.rt: how far a run has come after a step
 mod effects; // effects.rt: what each effect comes to
-mod kinds; // kinds.rt: what each kind of instruction comes to
+mod kinds; // kinds.rt: the kinds of steps, and what each comes to
 mod passing; // passing.rt: arguments that are passed one by one
 mod stays; // stays.rt: runs that stay in their frame
 mod unwind; // unwind.rt: what a step with an object pending comes to
@@ -13,34 +13,30 @@ mod unwind; // unwind.rt: what a step with an object pending comes to
 ghost use Rattle.std.specs.Prelude.{◌≡◌, eqb};
 ghost use Rattle.instruction.specs.Word.{pick};
 ghost use Rattle.site.specs.Site.{a_of, c_of};
-ghost use Rattle.shift.specs.Places.{preceding_of, top_of, below_of, look_of, thrown_at, next_left};
+ghost use Rattle.shift.specs.Places.{top_of, below_of, look_of, thrown_at};
 
-pub use asks::{
-    exits, is_running, is_static, is_throw, is_virtual, others, raised_at, raises, ready, runs,
-};
+pub use asks::{is_running, others, raised_at, runs};
 use cells::Value;
-pub use kinds::{leave_shift, make_shift, new_shift, static_shift, throw_shift, virtual_shift};
-pub use passing::{passed, passes};
+pub use kinds::{CallStatic, CallVirtual, Kind, Leave, Make, RaiseNew, Throw, Unwind};
+pub use passing::passed;
 use site::How;
 pub use stays::{at_of, goes, site_of, stay_of, went};
 use turn::{Status, Tally};
-pub use unwind::unwind_shift;
 
-// Why no further step can be made, if so: a full store, a full stack, an address outside its method.
+// Why no further step can be made: a full store, a full stack, an address outside its method.
 #[derive(Clone, Copy)]
 pub enum Stop {
-    No,
     Store,
     Stack,
     Outside,
 }
 
-// How far a run has come: the steps that may still be made, what of the state is not in lent slices, and what stopped it.
+// How far a run has come: the steps that may still be made, what of the state is not in lent slices, and what stopped it, if so.
 #[derive(Clone, Copy)]
 pub struct Run {
     pub left: u64,
     pub tally: Tally,
-    pub stop: Stop,
+    pub stop: Option<Stop>,
 }
 
 // A run whose top frame is at an address, with the opcode and the word there, and how the instruction before ended.
@@ -63,7 +59,8 @@ pub struct Stay {
     pub how: How,
 }
 
-// What is read: frame `top`'s place and a register of it, the address of the frame below; and what stands where there is none.
+// What is to be read: frame `top`'s place and a register of it, the address of the frame below; and what stands where there is
+// none.
 #[derive(Clone, Copy)]
 pub struct Look {
     pub top: usize,
@@ -71,6 +68,17 @@ pub struct Look {
     pub below: usize,
     pub none: Value,
     pub missing: u32,
+    pub class: u32,
+}
+
+// What is read: the method and the address of the top frame, the address of the one below, a register, the class of the object
+// that it names or that is pending.
+#[derive(Clone, Copy)]
+pub struct Seen {
+    pub method: u32,
+    pub address: u32,
+    pub below: u32,
+    pub value: Value,
     pub class: u32,
 }
 
@@ -86,6 +94,7 @@ pub struct Pass {
 
 // What is written: a frame that is dropped, the result of a frame, an address, a new object's class, a register, arguments, and
 // the method of a frame that is opened. Places past the end are nowhere.
+// Stays: six Options make 200 bytes, more than the 150 that are passed by value where steps are made.
 #[derive(Clone, Copy)]
 pub struct Shift {
     pub popped: usize,
@@ -103,40 +112,18 @@ pub struct Shift {
     pub run: Run,
 }
 
-// The number before n. Before 0 it is the last number of a word: so it is compiled without a test.
-fn preceding(n: u64) -> u64
-    ensures value { result ≡ preceding_of n }
-{
-    if 0 < n {
-        return n - 1;
-    }
-    18446744073709551615
-}
-
-// The top of so many frames, and the one below it; none is past every slice.
+// The top of so many frames, and the one below it; none is past every slice: so it is compiled without a test.
+#[tactic(auto, using(crate::proofs::Places::before_is))]
 pub fn top_of(depth: u8) -> usize
     ensures value { result ≡ top_of depth }
 {
-    preceding(depth as u64) as usize
+    (depth as usize).wrapping_sub(1)
 }
 
 pub fn below_of(depth: u8) -> usize
     ensures value { result ≡ below_of depth }
 {
-    if 1 < depth {
-        return (depth - 2) as usize;
-    }
-    18446744073709551615
-}
-
-// One step fewer, none below none.
-pub fn one_less(left: u64) -> u64
-    ensures value { result ≡ next_left left }
-{
-    if 0 < left {
-        return left - 1;
-    }
-    0
+    top_of(depth.saturating_sub(1))
 }
 
 // The register that a step looks at.
@@ -144,9 +131,10 @@ fn register_of(opcode: u8, word: u64) -> u8
     ensures value { result ≡ pick (eqb opcode 12) (c_of word) (a_of word) }
 {
     if opcode == 12 {
-        return site::field_c(word);
+        site::field_c(word)
+    } else {
+        site::field_a(word)
     }
-    site::field_a(word)
 }
 
 // Which values the step looks at.
@@ -159,8 +147,8 @@ pub fn looked(h: At) -> Look
         top: top_of(depth),
         first: register_of(h.opcode, h.word) as usize,
         below: below_of(depth),
-        none: cells::zero_value(),
-        missing: 4294967295,
+        none: Value::default(),
+        missing: u32::MAX,
         class: 64,
     }
 }
@@ -169,11 +157,8 @@ pub fn looked(h: At) -> Look
 pub fn thrown_at(h: At, x: Value) -> usize
     ensures value { result ≡ thrown_at h x }
 {
-    let run = h.run;
-    let tally = run.tally;
-    let status = tally.status;
-    if let Status::Raised(o) = status {
-        return o as usize;
+    match h.run.tally.status {
+        Status::Raised(o) => o as usize,
+        _ => x.place(),
     }
-    cells::object_place(x)
 }

@@ -8,6 +8,7 @@ use native.Mathlib.Omega.{arith}
 use lib.Dec.{eqb}
 use lib.ListN.{length}
 use borrow.Author.Tests.{eqb-true}
+use Rattle.std.specs.Prelude.{None}
 use Rattle.text.proofs.Cases.{by_test, never}
 use Rattle.instruction.specs.declared.Instruction.{Instruction}
 use Rattle.instruction.specs.Word.{instruction_of}
@@ -35,15 +36,13 @@ use Rattle.site.specs.declared.How.TheVariants as how
 use Rattle.site.specs.Site.{opcode_of, a_of, b_of, c_of, leaves_by, leaves_of}
 use Rattle.shift.specs.declared.At.{At}
 use Rattle.shift.specs.declared.Run.{Run}
-use Rattle.shift.specs.declared.Stop.TheVariants as stop
+use Rattle.shift.specs.Kinds.{Shifting, make_shifting, new_shifting, static_shifting, virtual_shifting, leave_shifting, throw_shifting}
 use Rattle.shift.specs.Places.{look_of}
 use Rattle.shift.specs.Shift.{shifted, returned_in}
 use Rattle.shift.specs.Stay.{raised_class, exits_of}
 use Rattle.drive.specs.Models as drive
 use Rattle.drive.specs.Models.{Lent}
-use Rattle.turns.specs.Turns.{Shifting, shift_in, shift_done, below_in, value_in, class_in, make_shifting, static_shifting, virtual_shifting}
-use Rattle.turns.specs.Turns.{leave_shifting, throw_shifting, make_done, static_done, virtual_done, leave_done, throw_done, from_throw, from_exit}
-use Rattle.turns.specs.Turns.{from_virtual, applied, new_shifting, new_done}
+use Rattle.turns.specs.Turns.{shift_in, shift_done, below_in, value_in, class_in, new_done, applied}
 use Rattle.lies.specs.Lies.{status_of, Roomy, Lies}
 use Rattle.lies.specs.Staying.{site_at}
 use Rattle.lies.proofs.Registers.{registers_few}
@@ -93,7 +92,7 @@ module _ (t : List ℕ) (p : Program) (formed : Formed p) (s : State) (before no
 
 module _ (t : List ℕ) (formed : Formed (program_in t)) (s : State) (before : Lent) (roomy : Roomy before) (now : Lent) (shaped : Shaped (program_in t) s)
     (f : Frame) (rest : List Frame) (at : continues.At (program_in t) s running f rest) (h : At) (come : Come (program_in t) f h)
-    (going : h.run.stop ≡ stop.No) (lies : Lies s before h.run.tally now) where
+    (going : h.run.stop ≡ None) (lies : Lies s before h.run.tally now) where
   small : length f.registers ≤ 16
   small = registers_few (program_in t) formed s shaped f rest at.frames at.inside
 
@@ -137,10 +136,10 @@ module _ (t : List ℕ) (formed : Formed (program_in t)) (s : State) (before : L
   opcode : (n : ℕ) → h.opcode ≡ n → opcode_of h.word ≡ n
   opcode n e = ap opcode_of come.word ∙ sym come.opcode ∙ e
 
-  static_arm : h.opcode ≡ 13 → Shifted (program_in t) s before now h.run (static_done t now h)
+  static_arm : h.opcode ≡ 13 → Shifted (program_in t) s before now h.run (shift_done static_shifting t now h)
   static_arm e = arm static_shifting _ _ refl (static_chosen h.word (opcode 13 e)) refl tt
 
-  virtual_arm : h.opcode ≡ 12 → Shifted (program_in t) s before now h.run (virtual_done t now h)
+  virtual_arm : h.opcode ≡ 12 → Shifted (program_in t) s before now h.run (shift_done virtual_shifting t now h)
   virtual_arm e =
       arm virtual_shifting _
       (virtual_call (program_in t) (class_in now h) (a_of h.word) (b_of h.word) (c_of h.word) (value_of (value_in now h)))
@@ -149,26 +148,26 @@ module _ (t : List ℕ) (formed : Formed (program_in t)) (s : State) (before : L
       (rw (class, value, first_virtual h e) refl)
       (virtual_leaves (program_in t) (class_in now h) (a_of h.word) (b_of h.word) (c_of h.word) (value_of (value_in now h)))
 
-  return_arm : h.opcode ≡ 16 → Shifted (program_in t) s before now h.run (leave_done t now h)
+  return_arm : h.opcode ≡ 16 → Shifted (program_in t) s before now h.run (shift_done leave_shifting t now h)
   return_arm e =
       arm leave_shifting _ (effect.Exit (returned_in h.opcode (value_in now h))) refl (return_chosen h.word (opcode 16 e))
       (ap (λ (o : ℕ). effect.Exit (returned_in o (value_in now h))) e
       ∙ ap effect.Exit (value ∙ ap (register f) (first_other h (λ q. never (omega (arith, e, q))))))
       tt
 
-  void_arm : h.opcode ≡ 17 → Shifted (program_in t) s before now h.run (leave_done t now h)
+  void_arm : h.opcode ≡ 17 → Shifted (program_in t) s before now h.run (shift_done leave_shifting t now h)
   void_arm e =
       arm leave_shifting _ (effect.Exit (returned_in h.opcode (value_in now h))) refl (void_chosen h.word (opcode 17 e))
       (ap (λ (o : ℕ). effect.Exit (returned_in o (value_in now h))) e)
       tt
 
-  throw_arm : h.opcode ≡ 18 → Shifted (program_in t) s before now h.run (throw_done t now h)
+  throw_arm : h.opcode ≡ 18 → Shifted (program_in t) s before now h.run (shift_done throw_shifting t now h)
   throw_arm e =
       arm throw_shifting _ (throw (program_in t) (class_in now h) (value_of (value_in now h))) refl (throw_chosen h.word (opcode 18 e))
       (rw (class, value, first_other h (λ q. never (omega (arith, e, q)))) refl)
       (throw_leaves (program_in t) (class_in now h) (value_of (value_in now h)))
 
-  make_arm : h.opcode ≡ 7 → Shifted (program_in t) s before now h.run (make_done t now h)
+  make_arm : h.opcode ≡ 7 → Shifted (program_in t) s before now h.run (shift_done make_shifting t now h)
   make_arm e =
       arm_by make_shifting (effect.Make (a_of h.word) (b_of h.word)) refl (effect_is _ (make_chosen h.word (opcode 7 e))) tt
 
@@ -179,7 +178,7 @@ module _ (t : List ℕ) (formed : Formed (program_in t)) (s : State) (before : L
       let class : k ≡ raised_class h.how = sym (ap raised_class e) in
       arm_by new_shifting (effect.RaiseNew (raised_class h.how)) refl (is ∙ ap effect.RaiseNew class) tt
 
-  leave_arm : exits_of h ≡ true → Shifted (program_in t) s before now h.run (leave_done t now h)
+  leave_arm : exits_of h ≡ true → Shifted (program_in t) s before now h.run (shift_done leave_shifting t now h)
   leave_arm e =
       by_test (eqb h.opcode 16) (λ q. return_arm (eqb-true h.opcode 16 q))
       (λ q. void_arm (eqb-true h.opcode 17 (rw q at e)))
@@ -196,11 +195,11 @@ module _ (t : List ℕ) (formed : Formed (program_in t)) (s : State) (before : L
   pub applied_lies : leaves_of (site_at (program_in t) f rest) ≡ true → Shifted (program_in t) s before now h.run (applied t now h)
   applied_lies left =
       let P : drive.Done Run → Type 0 = Shifted (program_in t) s before now h.run in
-      pick_cases P (eqb h.opcode 13) (static_done t now h) (from_virtual t now h) (λ q. static_arm (eqb-true h.opcode 13 q))
+      pick_cases P (eqb h.opcode 13) _ _ (λ q. static_arm (eqb-true h.opcode 13 q))
       (λ a.
-      pick_cases P (eqb h.opcode 12) (virtual_done t now h) (from_exit t now h) (λ q. virtual_arm (eqb-true h.opcode 12 q))
+      pick_cases P (eqb h.opcode 12) _ _ (λ q. virtual_arm (eqb-true h.opcode 12 q))
       (λ b.
-      pick_cases P (exits_of h) (leave_done t now h) (from_throw t now h) leave_arm
+      pick_cases P (exits_of h) _ _ leave_arm
       (λ c.
-      pick_cases P (eqb h.opcode 18) (throw_done t now h) (make_done t now h) (λ q. throw_arm (eqb-true h.opcode 18 q))
+      pick_cases P (eqb h.opcode 18) _ _ (λ q. throw_arm (eqb-true h.opcode 18 q))
       (λ d. make_arm (last_opcode (ap leaves_by come.opcode ∙ left) a b c d)))))

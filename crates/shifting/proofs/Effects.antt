@@ -4,12 +4,11 @@ use mathlib.Core.Bool.{Bool}
 use Prim.Native.Nat.{ℕ}
 use lib.IntN.{ℤ}
 use borrow.Author.Tests.{ne_eqb}
+use Rattle.std.specs.Prelude.{Option, Some, None}
 use Rattle.instruction.specs.declared.Instruction.TheVariants.{NewInstance, InvokeVirtual, InvokeStatic, Return, ReturnVoid, Throw}
 use Rattle.instruction.specs.Word.{pick, fields_of, instruction_of}
 use Rattle.arithmetic.specs.Arithmetic.{is_zero}
 use Rattle.program.specs.Program.{Program}
-use Rattle.search.specs.declared.Callee.{Callee}
-use Rattle.search.specs.declared.Callee.TheVariants.{Found, Missing}
 use Rattle.search.specs.Search.{below, virtual_callee}
 use Rattle.machine.specs.declared.Effect.{Effect}
 use Rattle.machine.specs.declared.Value.{Value}
@@ -65,9 +64,9 @@ either t d e h k = pick_cases Leaving t d e (λ _. h) (λ _. k)
 not_object_lem : (z : ℤ) → Leaving (not_object z)
 not_object_lem z = either (is_zero z) _ _ tt tt
 
-call_leaves : (r : Callee) (c : ℕ) → Leaving (call_of r c)
-call_leaves (Found m) c = tt
-call_leaves Missing c = tt
+call_leaves : (r : Option ℕ) (c : ℕ) → Leaving (call_of r c)
+call_leaves (Some m) c = tt
+call_leaves None c = tt
 
 pub virtual_leaves : (p : Program) (k n b c : ℕ) (v : Value) → Leaving (virtual_call p k n b c v)
 virtual_leaves p k n b c (Number z) = not_object_lem z

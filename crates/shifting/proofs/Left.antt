@@ -6,9 +6,9 @@ use Prim.Native.Nat.{ℕ, suc, ◌≤◌, ◌<◌}
 use native.Mathlib.Omega.{arith}
 use lib.ListN.{length}
 use borrow.Author.Tests.{lt-ltb, le-ltb}
+use Rattle.std.specs.Prelude.{Some, None}
 use Rattle.program.specs.Lists.{Every}
 use Rattle.program.specs.Program.{Program, handler_target}
-use Rattle.search.specs.declared.Handling.TheVariants as handling
 use Rattle.machine.specs.declared.Value as machine
 use Rattle.machine.specs.declared.Value.TheVariants.{Number, Reference}
 use Rattle.machine.specs.State.{Frame, State}
@@ -21,7 +21,8 @@ use Rattle.turn.specs.Stop.{stop_of}
 use Rattle.cells.specs.declared.Frame as cells
 use Rattle.cells.specs.Cells.{cell_of, frames_of}
 use Rattle.cells.specs.Reads.{cell_in}
-use Rattle.cells.proofs.Values.{add-one, reference_is}
+use native.Mathlib.Numerals.{add-one}
+use Rattle.cells.proofs.Values.{reference_is}
 use Rattle.laid.proofs.Frames.{frames_length, frames_same, top_pop}
 use Rattle.laid.proofs.Objects.{objects_same}
 use Rattle.laid.proofs.Statics.{statics_same}
@@ -125,12 +126,12 @@ module _ (t : List ℕ) (p : Program) (s : State) (before now : Lent) (h : At) (
 
     -- "takes the top frame's handler at its address (the object becomes the result)"
     pub caught_lies : (o m j : ℕ) → o < length s.objects → step p s ≡ with_frames s (run.resumed f (handler_target p m j) (Reference o) ∷ rest)
-        → stop_of p s ≡ none → Shifted p s before now h.run (written t now (unwound_by p h o m (handling.Caught j)))
+        → stop_of p s ≡ none → Shifted p s before now h.run (written t now (unwound_by p h o m (Some j)))
     caught_lies o m j l next free =
         let depth : h.run.tally.depth ≡ length (f ∷ rest) = deep s before now h.run f rest c in
         let top = top_of_lem h.run.tally.depth (length rest) depth in
         let end : length now.frames ≤ nowhere = frames_end_lem s before now h.run c.roomy c.lies in
-        let e : Shift = unwound_by p h o m (handling.Caught j) in
+        let e : Shift = unwound_by p h o m (Some j) in
         frames_lie e (with_frames s (run.resumed f (handler_target p m j) (Reference o) ∷ rest)) next free refl refl refl refl h.run.tally.depth Running
         refl depth refl (few_below s before now h.run f rest c) (all_wait s before now h.run f rest c)
         (ap (λ (fs : List cells.Frame). entered (wrote (moved (resumed fs e) e) e) e) (popped_none now.frames e end refl ∙ c.lies.frames)
@@ -139,7 +140,7 @@ module _ (t : List ℕ) (p : Program) (s : State) (before now : Lent) (h : At) (
 
   -- "drops the frame"; "uncaught (last frame dropped)"
   pub drop_lies : (rest : List Frame) (c : Topped s before now h.run f rest) (o m : ℕ) → step p s ≡ dropped s o rest → stop_of p s ≡ none
-      → Shifted p s before now h.run (written t now (unwound_by p h o m handling.Uncaught))
+      → Shifted p s before now h.run (written t now (unwound_by p h o m None))
   drop_lies [] c o m next free =
       let depth : h.run.tally.depth ≡ 1 = deep s before now h.run f [] c in
       dropped_by [] c _ (dropped s o []) next free refl refl refl (Uncaught o) (leaving_last h.run (Uncaught o) (Raised o) depth) refl

@@ -23,7 +23,8 @@ use Rattle.turn.specs.Stop.{room, stop_of}
 use Rattle.cells.specs.declared.Frame as cells
 use Rattle.cells.specs.Cells.{cell_of, frames_of}
 use Rattle.cells.specs.Reads.{reference_of}
-use Rattle.cells.proofs.Values.{add-one, reference_is}
+use native.Mathlib.Numerals.{add-one}
+use Rattle.cells.proofs.Values.{reference_is}
 use Rattle.laid.proofs.Frames.{frames_length, frames_same}
 use Rattle.laid.proofs.Objects.{object_make, objects_same}
 use Rattle.laid.proofs.Statics.{statics_same}

@@ -8,12 +8,11 @@ use native.Mathlib.Omega.{arith}
 use lib.Dec.{ltb}
 use lib.ListN.{length}
 use borrow.Author.Tests.{ltb-true, ltb-false, lt-leb, le-leb}
+use Rattle.std.specs.Prelude.{Option, Some, None}
 use Rattle.text.proofs.Cases.{by_test, never}
 use Rattle.program.specs.Program.{Program, code_length}
 use Rattle.program.specs.Tables.{program_in}
 use Rattle.reader.specs.Formed.{Formed}
-use Rattle.search.specs.declared.Handling.{Handling}
-use Rattle.search.specs.declared.Handling.TheVariants as handling
 use Rattle.machine.specs.State.{Frame, State, raised, object_at}
 use Rattle.machine.specs.Run as run
 use Rattle.machine.specs.Run.{step}
@@ -27,11 +26,12 @@ use Rattle.turn.specs.Stop.{stop_of}
 use Rattle.turn.proofs.Stops.{raised_stop}
 use Rattle.shift.specs.declared.Run.{Run}
 use Rattle.shift.specs.declared.Stop.TheVariants as stop
+use Rattle.shift.specs.Kinds.{unwind_shifting}
 use Rattle.shift.specs.Shift.{unwound_by, pending_of, unwound}
 use Rattle.shift.specs.Stay.{raised_at}
 use Rattle.drive.specs.Models as drive
 use Rattle.drive.specs.Models.{Lent}
-use Rattle.turns.specs.Turns.{method_in, address_in, class_in, unwind_shifting, unwind_done}
+use Rattle.turns.specs.Turns.{method_in, address_in, class_in, unwind_done}
 use Rattle.lies.specs.Lies.{status_of, Roomy, Lies}
 use Rattle.shifting.specs.Shifting.{Shifted, written, Topped}
 use Rattle.shifting.proofs.Looked.{method_in_lem, address_in_lem, address_none, class_raised}
@@ -48,7 +48,7 @@ raised_status (Uncaught q) o e = never (cc)
 raised_status (Failed f) o e = never (cc)
 
 module _ (t : List ℕ) (formed : Formed (program_in t)) (s : State) (before : Lent) (roomy : Roomy before) (now : Lent) (shaped : Shaped (program_in t) s)
-    (o : ℕ) (status : s.status ≡ raised o) (k : Run) (going : k.stop ≡ stop.No) (lies : Lies s before k.tally now) where
+    (o : ℕ) (status : s.status ≡ raised o) (k : Run) (going : k.stop ≡ None) (lies : Lies s before k.tally now) where
   pending : k.tally.status ≡ Raised o
   pending = raised_status k.tally.status o (lies.status ∙ status)
 
@@ -61,11 +61,11 @@ module _ (t : List ℕ) (formed : Formed (program_in t)) (s : State) (before : L
   outside_lies m a c out is = rw (le-leb (code_length (program_in t) m) a out) (stops t (program_in t) s before now k stop.Outside roomy lies (is, refl))
 
   -- inside, by what handles the object
-  handled_lies : (f : Frame) (rest : List Frame) → Topped s before now k f rest → (g : Handling) → step (program_in t) s ≡ run.unwound (program_in t) s f rest o g
+  handled_lies : (f : Frame) (rest : List Frame) → Topped s before now k f rest → (g : Option ℕ) → step (program_in t) s ≡ run.unwound (program_in t) s f rest o g
       → stop_of (program_in t) s ≡ none → Shifted (program_in t) s before now k (written t now (unwound_by (program_in t) (raised_at k) o f.method g))
-  handled_lies f rest c (handling.Caught j) next free =
+  handled_lies f rest c (Some j) next free =
       caught_lies t (program_in t) s before now (raised_at k) f rest c o f.method j known next free
-  handled_lies f rest c handling.Uncaught next free = drop_lies t (program_in t) s before now (raised_at k) f rest c o f.method next free
+  handled_lies f rest c None next free = drop_lies t (program_in t) s before now (raised_at k) f rest c o f.method next free
 
   inside_lies : (f : Frame) (rest : List Frame) → continues.At (program_in t) s (raised o) f rest
       → Shifted (program_in t) s before now k (written t now (unwound (program_in t) (raised_at k) f.method f.address (object_at s o).class))

@@ -5,6 +5,7 @@ use mathlib.Core.Option.{none}
 use Prim.Native.Nat.{ℕ, ◌≤◌, ◌<◌}
 use native.Mathlib.Omega.{arith}
 use lib.ListN.{length}
+use Rattle.std.specs.Prelude.{Option, Some, None}
 use Rattle.program.specs.Program.{Program}
 use Rattle.program.specs.Lists.{Every}
 use Rattle.machine.specs.State.{Frame, State}
@@ -16,7 +17,6 @@ use Rattle.site.specs.Work.{nowhere}
 use Rattle.shift.specs.declared.Run.{Run}
 use Rattle.shift.specs.declared.Shift.{Shift}
 use Rattle.shift.specs.declared.Stop.{Stop}
-use Rattle.shift.specs.declared.Stop.TheVariants as stop
 use Rattle.shift.specs.Places.{next_left}
 use Rattle.shift.specs.Shift.{only, stopped}
 use Rattle.drive.specs.Models.{Lent, lent, Done, done}
@@ -52,14 +52,14 @@ module _ (s : State) (before now : Lent) (k : Run) (f : Frame) (rest : List Fram
 
 module _ (t : List ℕ) (p : Program) (s : State) (before now : Lent) (k : Run) where
   -- the state u is next
-  pub goes_on_lem : (e : Shift) (u : State) → step p s ≡ u → stop_of p s ≡ none → e.run.stop ≡ stop.No → e.run.left ≡ next_left k.left
+  pub goes_on_lem : (e : Shift) (u : State) → step p s ≡ u → stop_of p s ≡ none → e.run.stop ≡ None → e.run.left ≡ next_left k.left
       → Lies u before e.run.tally (written t now e).memory → Shifted p s before now k (written t now e)
   unfolding written
   goes_on_lem e u next free going left l =
-      subst (λ (x : Stop). ShiftedBy p s before now k (written t now e) x) (sym going) (free, (rw next l, left))
+      subst (λ (x : Option Stop). ShiftedBy p s before now k (written t now e) x) (sym going) (free, (rw next l, left))
 
   -- so too where no argument is passed
-  pub goes_alone : (e : Shift) (u : State) → step p s ≡ u → stop_of p s ≡ none → e.run.stop ≡ stop.No → e.run.left ≡ next_left k.left
+  pub goes_alone : (e : Shift) (u : State) → step p s ≡ u → stop_of p s ≡ none → e.run.stop ≡ None → e.run.left ≡ next_left k.left
       → e.pass.count ≡ 0 → Lies u before e.run.tally (lent (frames_by now.frames e) (objects_by now.objects e) now.statics)
       → Shifted p s before now k (written t now e)
   goes_alone e u next free going left alone l =
@@ -67,7 +67,7 @@ module _ (t : List ℕ) (p : Program) (s : State) (before now : Lent) (k : Run) 
       (subst (λ (r : Done Run). Lies u before e.run.tally r.memory) (sym (none_passed t now e alone)) l)
 
   -- the step cannot be made
-  pub stops : (x : Stop) → Roomy before → Lies s before k.tally now → ShiftedBy p s before now k (done (stopped k x) now) x
+  pub stops : (x : Stop) → Roomy before → Lies s before k.tally now → ShiftedBy p s before now k (done (stopped k x) now) (Some x)
       → Shifted p s before now k (written t now (only (stopped k x)))
   stops x roomy lies w =
       subst (λ (r : Done Run). Shifted p s before now k r)

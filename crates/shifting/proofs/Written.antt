@@ -23,9 +23,10 @@ use Rattle.shift.specs.declared.At.{At}
 use Rattle.shift.specs.declared.Pass.{Pass}
 use Rattle.shift.specs.declared.Run.{Run}
 use Rattle.shift.specs.declared.Shift.{Shift}
+use Rattle.shift.specs.Kinds.{Shifting}
 use Rattle.shift.specs.Shift.{only, passes_of, up_of, passed_of}
 use Rattle.drive.specs.Models.{Lent, lent, done, looped}
-use Rattle.turns.specs.Turns.{Shifting, shift_in, shift_done, pass_one, pass_done, popped, resumed, moved, wrote, entered, shifted_on, entered_on}
+use Rattle.turns.specs.Turns.{shift_in, shift_done, pass_one, pass_done, popped, resumed, moved, wrote, entered, shifted_on, entered_on}
 use Rattle.shifting.specs.Shifting.{written, frames_by, objects_by}
 
 pub done_written : (w : Shifting) (t : List ℕ) (m : Lent) (h : At) → shift_done w t m h ≡ written t m (shift_in w t m h)

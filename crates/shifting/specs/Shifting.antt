@@ -1,6 +1,6 @@
 -- What a step that does not stay in its frame comes to, of a state that lies in the lent slices. Nothing here needs to be believed to
 -- read a promise of the stepper. Definitions only.
-use Rattle.std.specs.Prelude.{◌≡◌, List, ◌∷◌, ℕ, ◌≤◌, length, get_or, set}
+use Rattle.std.specs.Prelude.{◌≡◌, List, ◌∷◌, ℕ, ◌≤◌, length, get_or, set, Option, Some, None}
 use Rattle.std.proofs.Math.Option.{none, some}
 use Rattle.program.specs.Program.{Program, word_at}
 use Rattle.machine.specs.declared.Effect.{Effect}
@@ -33,12 +33,12 @@ pub record Come (p : Program) (f : Frame) (h : At) : Type 0 where
 
 -- by what stopped it: nothing, and the next state lies in the slices; or a full store, a full stack or an address outside, and
 -- nothing was done
-abbrev pub ShiftedBy : Program → State → Lent → Lent → Run → Done Run → Stop → Type 0
-ShiftedBy p s before now k r stop.No =
+abbrev pub ShiftedBy : Program → State → Lent → Lent → Run → Done Run → Option Stop → Type 0
+ShiftedBy p s before now k r None =
     (stop_of p s ≡ none) × (Lies (step p s) before r.result.tally r.memory × (r.result.left ≡ next_left k.left))
-ShiftedBy p s before now k r stop.Store = (stop_of p s ≡ some FullStore) × (r ≡ done (stopped k stop.Store) now)
-ShiftedBy p s before now k r stop.Stack = (stop_of p s ≡ some FullStack) × (r ≡ done (stopped k stop.Stack) now)
-ShiftedBy p s before now k r stop.Outside = (stop_of p s ≡ some Outside) × (r ≡ done (stopped k stop.Outside) now)
+ShiftedBy p s before now k r (Some stop.Store) = (stop_of p s ≡ some FullStore) × (r ≡ done (stopped k stop.Store) now)
+ShiftedBy p s before now k r (Some stop.Stack) = (stop_of p s ≡ some FullStack) × (r ≡ done (stopped k stop.Stack) now)
+ShiftedBy p s before now k r (Some stop.Outside) = (stop_of p s ≡ some Outside) × (r ≡ done (stopped k stop.Outside) now)
 
 abbrev pub Shifted : Program → State → Lent → Lent → Run → Done Run → Type 0
 Shifted p s before now k r = ShiftedBy p s before now k r r.result.stop
@@ -57,7 +57,7 @@ objects_by os e = set os e.made (with_class (get_or os e.made absent_object) e.c
 pub record Topped (s : State) (before now : Lent) (k : Run) (f : Frame) (rest : List Frame) : Type 0 where
   pub roomy : Roomy before
   pub lies : Lies s before k.tally now
-  pub going : k.stop ≡ stop.No
+  pub going : k.stop ≡ None
   pub frames : s.frames ≡ f ∷ rest
   pub small : length f.registers ≤ 16
 

@@ -4,32 +4,31 @@ use mathlib.Core.Bool.{Bool, true, false, false≢true, ◌||◌}
 use Prim.Native.Nat.{ℕ}
 use lib.Dec.{eqb}
 use borrow.Author.Tests.{eqb-true, ne_eqb}
-use Rattle.instruction.specs.declared.Instruction.TheVariants.{Binop, Iget, Iput, Sget, Sput}
-use Rattle.instruction.specs.Word.{operation_of, fields_of, instruction_of}
+use Rattle.instruction.specs.Word.{fields_of, instruction_of}
 use Rattle.site.specs.Site.{opcode_of, a_of, b_of, c_of, d_of, leaves_by}
-use Rattle.site.specs.Work.{plain_of, branch_of, classed_of}
+use Rattle.site.specs.Work.{binop_of, iget_of, iput_of, sget_of, sput_of, plain_of, branch_of, classed_of}
 
 pub branch_chosen : (w : ℕ) → opcode_of w ≡ 4 → branch_of w ≡ instruction_of w
 unfolding opcode_of a_of b_of c_of d_of branch_of instruction_of fields_of
 branch_chosen w e = rw e
 
-pub binop_chosen : (w : ℕ) → opcode_of w ≡ 5 → Binop (operation_of (d_of w)) (a_of w) (b_of w) (c_of w) ≡ instruction_of w
+pub binop_chosen : (w : ℕ) → opcode_of w ≡ 5 → binop_of w ≡ instruction_of w
 unfolding opcode_of a_of b_of c_of d_of instruction_of fields_of
 binop_chosen w e = rw e
 
-pub iget_chosen : (w : ℕ) → opcode_of w ≡ 8 → Iget (a_of w) (b_of w) (c_of w) ≡ instruction_of w
+pub iget_chosen : (w : ℕ) → opcode_of w ≡ 8 → iget_of w ≡ instruction_of w
 unfolding opcode_of a_of b_of c_of instruction_of fields_of
 iget_chosen w e = rw e
 
-pub iput_chosen : (w : ℕ) → opcode_of w ≡ 9 → Iput (a_of w) (b_of w) (c_of w) ≡ instruction_of w
+pub iput_chosen : (w : ℕ) → opcode_of w ≡ 9 → iput_of w ≡ instruction_of w
 unfolding opcode_of a_of b_of c_of instruction_of fields_of
 iput_chosen w e = rw e
 
-pub sget_chosen : (w : ℕ) → opcode_of w ≡ 10 → Sget (a_of w) (b_of w) ≡ instruction_of w
+pub sget_chosen : (w : ℕ) → opcode_of w ≡ 10 → sget_of w ≡ instruction_of w
 unfolding opcode_of a_of b_of instruction_of fields_of
 sget_chosen w e = rw e
 
-pub sput_chosen : (w : ℕ) → opcode_of w ≡ 11 → Sput (a_of w) (b_of w) ≡ instruction_of w
+pub sput_chosen : (w : ℕ) → opcode_of w ≡ 11 → sput_of w ≡ instruction_of w
 unfolding opcode_of a_of b_of instruction_of fields_of
 sput_chosen w e = rw e
 

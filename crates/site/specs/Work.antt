@@ -3,7 +3,7 @@
 use Rattle.std.specs.Prelude.{ℕ, ◌+◌, ◌/◌, ◌%◌, eqb, ltb, ℤ}
 use Rattle.instruction.specs.declared.Instruction.{Instruction}
 use Rattle.instruction.specs.declared.Instruction.TheVariants.{Nop, Move, Const, Goto, If, IfZero, Binop, Unop, NewInstance, Iget, Iput, Sget, Sput, InvokeVirtual, InvokeStatic, MoveResult, MoveException, Return, ReturnVoid, Throw, InstanceOf, CheckCast}
-use Rattle.instruction.specs.Word.{pick, condition_of, unary_of, signed_of}
+use Rattle.instruction.specs.Word.{pick, operation_of, condition_of, unary_of, signed_of}
 use Rattle.program.specs.Program.{Program}
 use Rattle.machine.specs.declared.Effect.{Effect}
 use Rattle.machine.specs.declared.Effect.TheVariants as effect
@@ -14,6 +14,7 @@ use Rattle.machine.specs.Decide.{branch, binop, unop, get_field, put_field, virt
 use Rattle.cells.specs.declared.Value.{Value}
 use Rattle.cells.specs.Cells.{value_of, zero_value}
 use Rattle.cells.specs.Reads.{cell_in}
+use Rattle.site.specs.declared.Seen.{Seen}
 use Rattle.site.specs.declared.Site.{Site}
 use Rattle.site.specs.declared.Work.{Work}
 use Rattle.site.specs.declared.How.{How}
@@ -114,15 +115,32 @@ decided p x y z k (Throw a) = throw p k x
 decided p x y z k (InstanceOf a b c) = instance_of p k a c x
 decided p x y z k (CheckCast a b) = check_cast p k a b x
 
--- the work of an instruction
-unfoldable pub decided_in : Program → Site → Value → Value → Value → ℕ → Value → Value → Instruction → Work
-decided_in p s x y z k v g i = work_of s.pc v g (decided p (value_of x) (value_of y) (value_of z) k i)
+-- the work of an instruction, of what it looks at
+unfoldable pub decided_in : Program → Site → Seen → Instruction → Work
+decided_in p s e i =
+    work_of s.pc e.cell e.fixed (decided p (value_of e.first) (value_of e.second) (value_of e.result) e.class i)
 
 -- d as a signed number
 abbrev pub signed_in : ℕ → ℤ
 signed_in w = signed_of (w / 16777216 % 256) (w / 65536 % 256) (w / 256 % 256) (w % 256)
 
--- the instructions that one function does, by their word: move, const, goto, unop, move-result, move-exception, else nop
+-- the instructions of a kind, by their word
+abbrev pub binop_of : ℕ → Instruction
+binop_of w = Binop (operation_of (d_of w)) (a_of w) (b_of w) (c_of w)
+
+abbrev pub iget_of : ℕ → Instruction
+iget_of w = Iget (a_of w) (b_of w) (c_of w)
+
+abbrev pub iput_of : ℕ → Instruction
+iput_of w = Iput (a_of w) (b_of w) (c_of w)
+
+abbrev pub sget_of : ℕ → Instruction
+sget_of w = Sget (a_of w) (b_of w)
+
+abbrev pub sput_of : ℕ → Instruction
+sput_of w = Sput (a_of w) (b_of w)
+
+-- those of one kind that have several opcodes: move, const, goto, unop, move-result, move-exception, else nop
 abbrev pub plain_by : ℕ → ℕ → Instruction
 plain_by o w =
     pick (eqb o 1) (Move (a_of w) (b_of w))

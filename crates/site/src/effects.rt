@@ -7,18 +7,20 @@ ghost use Rattle.cells.specs.Cells.{value_of};
 ghost use Rattle.site.specs.Work.{goes_to, wrote, stored_in, kept_in, work_of, decided, signed_in, plain_of, classed_of, branch_of};
 
 use super::{Gone, How, Work, field_a, field_b, field_c, field_d, opcode};
-use cells::Value;
+use cells::{NOWHERE, Value};
+use instruction::{Condition, Unary};
 use machine::Effect;
 
+// The frame goes to an address, and nothing is written.
 pub fn goes_to(next: u32, how: How) -> Work
     ensures value { result ≡ goes_to next how }
 {
     Work {
         to: 16,
-        value: cells::zero_value(),
-        object: 18446744073709551615,
+        value: Value::default(),
+        object: NOWHERE,
         cell: 16,
-        fixed: 18446744073709551615,
+        fixed: NOWHERE,
         gone: Gone {
             next: next as usize,
             how,
@@ -27,57 +29,35 @@ pub fn goes_to(next: u32, how: How) -> Work
     }
 }
 
+// The frame goes one on, and a register, a cell of an object or a static is written.
 pub fn wrote(pc: u8, to: u8, value: Value) -> Work
     ensures value { result ≡ wrote pc to value }
 {
-    let next = pc as u32 + 1;
     Work {
         to: (to % 16) as usize,
         value,
-        object: 18446744073709551615,
-        cell: 16,
-        fixed: 18446744073709551615,
-        gone: Gone {
-            next: next as usize,
-            how: How::Went,
-        },
-        address: next,
+        ..goes_to(pc as u32 + 1, How::Went)
     }
 }
 
 pub fn stored(pc: u8, object: u32, cell: u8, value: Value) -> Work
     ensures value { result ≡ stored_in pc object cell value }
 {
-    let next = pc as u32 + 1;
     Work {
-        to: 16,
-        value,
         object: object as usize,
         cell: cell as usize,
-        fixed: 18446744073709551615,
-        gone: Gone {
-            next: next as usize,
-            how: How::Went,
-        },
-        address: next,
+        value,
+        ..goes_to(pc as u32 + 1, How::Went)
     }
 }
 
 pub fn kept(pc: u8, fixed: u8, value: Value) -> Work
     ensures value { result ≡ kept_in pc fixed value }
 {
-    let next = pc as u32 + 1;
     Work {
-        to: 16,
-        value,
-        object: 18446744073709551615,
-        cell: 16,
         fixed: fixed as usize,
-        gone: Gone {
-            next: next as usize,
-            how: How::Went,
-        },
-        address: next,
+        value,
+        ..goes_to(pc as u32 + 1, How::Went)
     }
 }
 
@@ -88,15 +68,15 @@ pub fn work_of(pc: u8, v: Value, g: Value, e: Effect) -> Work
     match e {
         Effect::Next => goes_to(pc as u32 + 1, How::Went),
         Effect::Jump { target } => goes_to(target, How::Went),
-        Effect::Write { to, value } => wrote(pc, to, cells::cell_of(value)),
+        Effect::Write { to, value } => wrote(pc, to, value.into()),
         Effect::Load { to, object, field } => wrote(pc, to, v),
         Effect::LoadStatic { to, place } => wrote(pc, to, g),
         Effect::Store {
             object,
             field,
             value,
-        } => stored(pc, object, field, cells::cell_of(value)),
-        Effect::StoreStatic { place, value } => kept(pc, place, cells::cell_of(value)),
+        } => stored(pc, object, field, value.into()),
+        Effect::StoreStatic { place, value } => kept(pc, place, value.into()),
         Effect::RaiseNew { class } => goes_to(pc as u32, How::Raises(class)),
         Effect::Fail { fault } => goes_to(pc as u32, How::Failed(fault)),
         _ => goes_to(pc as u32, How::Leaves),
@@ -106,10 +86,7 @@ pub fn work_of(pc: u8, v: Value, g: Value, e: Effect) -> Work
 fn signed(w: u64) -> i32
     ensures value { result ≡ signed_in w }
 {
-    let x = (w / 16777216 % 256) as u8;
-    let y = (w / 65536 % 256) as u8;
-    let z = (w / 256 % 256) as u8;
-    let u = (w % 256) as u8;
+    let [_, _, _, _, x, y, z, u] = w.to_be_bytes();
     instruction::signed(x, y, z, u)
 }
 
@@ -123,21 +100,17 @@ pub fn plain(w: u64, x: Value, z: Value) -> Effect
     match o {
         1 => Effect::Write {
             to: a,
-            value: cells::value_of(x),
+            value: x.into(),
         },
         2 => Effect::Write {
             to: a,
             value: machine::Value::Number(signed(w)),
         },
         3 => Effect::Jump { target: field_d(w) },
-        6 => decide::numbers::unop(a, instruction::unary_of(field_c(w)), cells::value_of(x)),
-        14 => Effect::Write {
+        6 => decide::numbers::unop(a, Unary::from(field_c(w)), x.into()),
+        14 | 15 => Effect::Write {
             to: a,
-            value: cells::value_of(z),
-        },
-        15 => Effect::Write {
-            to: a,
-            value: cells::value_of(z),
+            value: z.into(),
         },
         _ => Effect::Next,
     }
@@ -149,16 +122,11 @@ pub fn branch(w: u64, x: Value, y: Value) -> Effect
 {
     let c = field_c(w);
     let d = field_d(w);
-    let left = cells::value_of(x);
+    let left = machine::Value::from(x);
     if c < 6 {
-        return decide::numbers::branch(instruction::condition_of(c), left, cells::value_of(y), d);
+        return decide::numbers::branch(Condition::from(c), left, y.into(), d);
     }
-    decide::numbers::branch(
-        instruction::zero_condition_of(c),
-        left,
-        machine::Value::Number(0),
-        d,
-    )
+    decide::numbers::branch(Condition::from(c % 6), left, machine::Value::Number(0), d)
 }
 
 // instance-of and check-cast.
@@ -166,7 +134,7 @@ pub fn branch(w: u64, x: Value, y: Value) -> Effect
 pub fn classed(t: &[u64; 768], w: u64, x: Value, k: u32) -> Effect
     ensures value { (y z : machine.Value) → result ≡ decided (program_in t.now) (value_of x) y z k (classed_of w) }
 {
-    let v = cells::value_of(x);
+    let v = machine::Value::from(x);
     if opcode(w) == 19 {
         return decide::objects::instance_of(t, k as usize, field_a(w), field_c(w), v);
     }

@@ -1,184 +1,165 @@
-// What each kind of instruction comes to, of two registers, the result, the class and a cell of the first one's object, and a
-// static. What is likely stands first, so that it is compiled apart, and each effect that a kind comes to has an arm: `work_of` takes
-// what never comes.
-ghost use Rattle.std.specs.Prelude.{◌≡◌};
-ghost use Rattle.instruction.specs.declared.Instruction.TheVariants.{Binop, Iget, Iput, Sget, Sput};
-ghost use Rattle.instruction.specs.Word.{operation_of};
+// The kinds of instruction that stay in their frame, and what each comes to of what it looks at. What is likely stands first, so
+// that it is compiled apart, and each effect that a kind comes to has an arm: `work_of` takes what never comes.
+ghost use Rattle.std.specs.Prelude.{◌≡◌, ℕ};
+ghost use Rattle.instruction.specs.declared.Instruction.{Instruction};
 ghost use Rattle.program.specs.Tables.{program_in};
-ghost use Rattle.site.specs.Site.{a_of, b_of, c_of, d_of};
-ghost use Rattle.site.specs.Work.{decided_in, plain_of, classed_of, branch_of};
+ghost use Rattle.site.specs.Work.{decided_in, binop_of, branch_of, iget_of, iput_of, sget_of, sput_of, plain_of, classed_of};
 
-use super::{How, Site, Work, effects, field_a, field_b, field_c, field_d};
-use cells::Value;
+use super::{How, Seen, Site, Work, effects, field_a, field_b, field_c, field_d};
+use instruction::Operation;
 use machine::Effect;
 
-#[tactic(auto, unfolding(crate::specs::Work::decided_in))]
-pub fn plain_work(
-    t: &[u64; 768],
-    s: Site,
-    x: Value,
-    y: Value,
-    z: Value,
-    k: u32,
-    v: Value,
-    g: Value,
-) -> Work
-    ensures value { result ≡ decided_in (program_in t.now) s x y z k v g (plain_of s.word) }
-{
-    let e = effects::plain(s.word, x, z);
-    effects::work_of(s.pc, v, g, e)
+// A kind of instruction that stays in its frame.
+pub trait Kind {
+    // The instruction of a word.
+    ghost instruction: { ℕ → Instruction };
+
+    // What the instruction at a site comes to.
+    fn work(t: &[u64; 768], s: Site, e: Seen) -> Work
+        ensures value { result ≡ decided_in (program_in t.now) s e (instruction s.word) };
 }
 
-#[tactic(auto, unfolding(crate::specs::Work::decided_in))]
-pub fn branch_work(
-    t: &[u64; 768],
-    s: Site,
-    x: Value,
-    y: Value,
-    z: Value,
-    k: u32,
-    v: Value,
-    g: Value,
-) -> Work
-    ensures value { result ≡ decided_in (program_in t.now) s x y z k v g (branch_of s.word) }
-{
-    let e = effects::branch(s.word, x, y);
-    match e {
-        Effect::Next => effects::goes_to(s.pc as u32 + 1, How::Went),
-        Effect::Jump { target } => effects::goes_to(target, How::Went),
-        Effect::Fail { fault } => effects::goes_to(s.pc as u32, How::Failed(fault)),
-        _ => effects::work_of(s.pc, v, g, e),
+// binop.
+pub struct Binop;
+
+impl Kind for Binop {
+    ghost instruction = { binop_of };
+
+    #[tactic(auto, unfolding(crate::specs::Work::decided_in))]
+    fn work(t: &[u64; 768], s: Site, e: Seen) -> Work {
+        let o = Operation::from(field_d(s.word));
+        let did = decide::numbers::binop(field_a(s.word), o, e.first.into(), e.second.into());
+        match did {
+            Effect::Write { to, value } => effects::wrote(s.pc, to, value.into()),
+            Effect::Fail { fault } => effects::goes_to(s.pc as u32, How::Failed(fault)),
+            Effect::RaiseNew { class } => effects::goes_to(s.pc as u32, How::Raises(class)),
+            _ => effects::work_of(s.pc, e.cell, e.fixed, did),
+        }
     }
 }
 
-#[tactic(auto, unfolding(crate::specs::Work::decided_in))]
-pub fn binop_work(
-    t: &[u64; 768],
-    s: Site,
-    x: Value,
-    y: Value,
-    z: Value,
-    k: u32,
-    v: Value,
-    g: Value,
-) -> Work
-    ensures value { result ≡ decided_in (program_in t.now) s x y z k v g (Binop (operation_of (d_of s.word)) (a_of s.word) (b_of s.word) (c_of s.word)) }
-{
-    let o = instruction::operation_of(field_d(s.word));
-    let e = decide::numbers::binop(field_a(s.word), o, cells::value_of(x), cells::value_of(y));
-    match e {
-        Effect::Write { to, value } => effects::wrote(s.pc, to, cells::cell_of(value)),
-        Effect::Fail { fault } => effects::goes_to(s.pc as u32, How::Failed(fault)),
-        Effect::RaiseNew { class } => effects::goes_to(s.pc as u32, How::Raises(class)),
-        _ => effects::work_of(s.pc, v, g, e),
+// if.
+pub struct Branch;
+
+impl Kind for Branch {
+    ghost instruction = { branch_of };
+
+    #[tactic(auto, unfolding(crate::specs::Work::decided_in))]
+    fn work(t: &[u64; 768], s: Site, e: Seen) -> Work {
+        let did = effects::branch(s.word, e.first, e.second);
+        match did {
+            Effect::Next => effects::goes_to(s.pc as u32 + 1, How::Went),
+            Effect::Jump { target } => effects::goes_to(target, How::Went),
+            Effect::Fail { fault } => effects::goes_to(s.pc as u32, How::Failed(fault)),
+            _ => effects::work_of(s.pc, e.cell, e.fixed, did),
+        }
     }
 }
 
-#[tactic(auto, unfolding(crate::specs::Work::decided_in))]
-pub fn iget_work(
-    t: &[u64; 768],
-    s: Site,
-    x: Value,
-    y: Value,
-    z: Value,
-    k: u32,
-    v: Value,
-    g: Value,
-) -> Work
-    ensures value { result ≡ decided_in (program_in t.now) s x y z k v g (Iget (a_of s.word) (b_of s.word) (c_of s.word)) }
-{
-    let e = decide::objects::get_field(
-        t,
-        k as usize,
-        field_a(s.word),
-        field_c(s.word),
-        cells::value_of(x),
-    );
-    match e {
-        Effect::Load { to, object, field } => effects::wrote(s.pc, to, v),
-        Effect::Fail { fault } => effects::goes_to(s.pc as u32, How::Failed(fault)),
-        Effect::RaiseNew { class } => effects::goes_to(s.pc as u32, How::Raises(class)),
-        _ => effects::work_of(s.pc, v, g, e),
+// iget.
+pub struct Iget;
+
+impl Kind for Iget {
+    ghost instruction = { iget_of };
+
+    #[tactic(auto, unfolding(crate::specs::Work::decided_in))]
+    fn work(t: &[u64; 768], s: Site, e: Seen) -> Work {
+        let did = decide::objects::get_field(
+            t,
+            e.class as usize,
+            field_a(s.word),
+            field_c(s.word),
+            e.first.into(),
+        );
+        match did {
+            Effect::Load { to, object, field } => effects::wrote(s.pc, to, e.cell),
+            Effect::Fail { fault } => effects::goes_to(s.pc as u32, How::Failed(fault)),
+            Effect::RaiseNew { class } => effects::goes_to(s.pc as u32, How::Raises(class)),
+            _ => effects::work_of(s.pc, e.cell, e.fixed, did),
+        }
     }
 }
 
-#[tactic(auto, unfolding(crate::specs::Work::decided_in))]
-pub fn iput_work(
-    t: &[u64; 768],
-    s: Site,
-    x: Value,
-    y: Value,
-    z: Value,
-    k: u32,
-    v: Value,
-    g: Value,
-) -> Work
-    ensures value { result ≡ decided_in (program_in t.now) s x y z k v g (Iput (a_of s.word) (b_of s.word) (c_of s.word)) }
-{
-    let stored = cells::value_of(y);
-    let e = decide::objects::put_field(t, k as usize, field_c(s.word), stored, cells::value_of(x));
-    match e {
-        Effect::Store {
-            object,
-            field,
-            value,
-        } => effects::stored(s.pc, object, field, cells::cell_of(value)),
-        Effect::Fail { fault } => effects::goes_to(s.pc as u32, How::Failed(fault)),
-        Effect::RaiseNew { class } => effects::goes_to(s.pc as u32, How::Raises(class)),
-        _ => effects::work_of(s.pc, v, g, e),
+// iput.
+pub struct Iput;
+
+impl Kind for Iput {
+    ghost instruction = { iput_of };
+
+    #[tactic(auto, unfolding(crate::specs::Work::decided_in))]
+    fn work(t: &[u64; 768], s: Site, e: Seen) -> Work {
+        let stored = machine::Value::from(e.second);
+        let did = decide::objects::put_field(
+            t,
+            e.class as usize,
+            field_c(s.word),
+            stored,
+            e.first.into(),
+        );
+        match did {
+            Effect::Store {
+                object,
+                field,
+                value,
+            } => effects::stored(s.pc, object, field, value.into()),
+            Effect::Fail { fault } => effects::goes_to(s.pc as u32, How::Failed(fault)),
+            Effect::RaiseNew { class } => effects::goes_to(s.pc as u32, How::Raises(class)),
+            _ => effects::work_of(s.pc, e.cell, e.fixed, did),
+        }
     }
 }
 
-#[tactic(auto, unfolding(crate::specs::Work::decided_in))]
-pub fn sget_work(
-    t: &[u64; 768],
-    s: Site,
-    x: Value,
-    y: Value,
-    z: Value,
-    k: u32,
-    v: Value,
-    g: Value,
-) -> Work
-    ensures value { result ≡ decided_in (program_in t.now) s x y z k v g (Sget (a_of s.word) (b_of s.word)) }
-{
-    effects::wrote(s.pc, field_a(s.word), g)
+// sget.
+pub struct Sget;
+
+impl Kind for Sget {
+    ghost instruction = { sget_of };
+
+    #[tactic(auto, unfolding(crate::specs::Work::decided_in))]
+    fn work(t: &[u64; 768], s: Site, e: Seen) -> Work {
+        effects::wrote(s.pc, field_a(s.word), e.fixed)
+    }
 }
 
-#[tactic(auto, unfolding(crate::specs::Work::decided_in))]
-pub fn sput_work(
-    t: &[u64; 768],
-    s: Site,
-    x: Value,
-    y: Value,
-    z: Value,
-    k: u32,
-    v: Value,
-    g: Value,
-) -> Work
-    ensures value { result ≡ decided_in (program_in t.now) s x y z k v g (Sput (a_of s.word) (b_of s.word)) }
-{
-    effects::kept(s.pc, field_b(s.word), cells::normal(x))
+// sput.
+pub struct Sput;
+
+impl Kind for Sput {
+    ghost instruction = { sput_of };
+
+    #[tactic(auto, unfolding(crate::specs::Work::decided_in))]
+    fn work(t: &[u64; 768], s: Site, e: Seen) -> Work {
+        effects::kept(s.pc, field_b(s.word), e.first.normal())
+    }
 }
 
-#[tactic(auto, unfolding(crate::specs::Work::decided_in))]
-pub fn class_work(
-    t: &[u64; 768],
-    s: Site,
-    x: Value,
-    y: Value,
-    z: Value,
-    k: u32,
-    v: Value,
-    g: Value,
-) -> Work
-    ensures value { result ≡ decided_in (program_in t.now) s x y z k v g (classed_of s.word) }
-{
-    let e = effects::classed(t, s.word, x, k);
-    match e {
-        Effect::Write { to, value } => effects::wrote(s.pc, to, cells::cell_of(value)),
-        Effect::Fail { fault } => effects::goes_to(s.pc as u32, How::Failed(fault)),
-        Effect::RaiseNew { class } => effects::goes_to(s.pc as u32, How::Raises(class)),
-        _ => effects::work_of(s.pc, v, g, e),
+// instance-of and check-cast.
+pub struct Class;
+
+impl Kind for Class {
+    ghost instruction = { classed_of };
+
+    #[tactic(auto, unfolding(crate::specs::Work::decided_in))]
+    fn work(t: &[u64; 768], s: Site, e: Seen) -> Work {
+        let did = effects::classed(t, s.word, e.first, e.class);
+        match did {
+            Effect::Write { to, value } => effects::wrote(s.pc, to, value.into()),
+            Effect::Fail { fault } => effects::goes_to(s.pc as u32, How::Failed(fault)),
+            Effect::RaiseNew { class } => effects::goes_to(s.pc as u32, How::Raises(class)),
+            _ => effects::work_of(s.pc, e.cell, e.fixed, did),
+        }
+    }
+}
+
+// move, const, goto, unop, move-result, move-exception, nop.
+pub struct Plain;
+
+impl Kind for Plain {
+    ghost instruction = { plain_of };
+
+    #[tactic(auto, unfolding(crate::specs::Work::decided_in))]
+    fn work(t: &[u64; 768], s: Site, e: Seen) -> Work {
+        let did = effects::plain(s.word, e.first, e.result);
+        effects::work_of(s.pc, e.cell, e.fixed, did)
     }
 }

@@ -3,15 +3,13 @@
 #![tactic(auto)]
 
 mod effects; // effects.rt: what an instruction decides, and the work of an effect
-mod kinds; // kinds.rt: the work of each kind of instruction
+mod kinds; // kinds.rt: the kinds of instruction, and the work of each
 
-ghost use Rattle.std.specs.Prelude.{◌≡◌, eqb};
-ghost use Rattle.site.specs.Site.{opcode_of, a_of, b_of, c_of, d_of, first_of, second_of, want_of, is_class, leaves_of, left_at};
+ghost use Rattle.std.specs.Prelude.{◌≡◌};
+ghost use Rattle.site.specs.Site.{opcode_of, a_of, b_of, c_of, d_of, first_of, second_of, want_of, left_at};
 
 use cells::Value;
-pub use kinds::{
-    binop_work, branch_work, class_work, iget_work, iput_work, plain_work, sget_work, sput_work,
-};
+pub use kinds::{Binop, Branch, Class, Iget, Iput, Kind, Plain, Sget, Sput};
 use machine::Fault;
 
 // Where an instruction stands: frame `top`, its address, its word, its opcode.
@@ -39,7 +37,7 @@ pub struct Gone {
     pub how: How,
 }
 
-// What is read: two registers, a cell of the first one's object, a static; and what stands where there is none.
+// What is to be read: two registers, a cell of the first one's object, a static; and what stands where there is none.
 #[derive(Clone, Copy)]
 pub struct Want {
     pub first: usize,
@@ -48,6 +46,17 @@ pub struct Want {
     pub fixed: usize,
     pub none: Value,
     pub class: u32,
+}
+
+// What is read: two registers, the frame's result, the class and a cell of the first one's object, a static.
+#[derive(Clone, Copy)]
+pub struct Seen {
+    pub first: Value,
+    pub second: Value,
+    pub result: Value,
+    pub class: u32,
+    pub cell: Value,
+    pub fixed: Value,
 }
 
 // What is written: a value to a register, to a cell of an object or to a static, and the frame's address. Places past the end are
@@ -67,28 +76,32 @@ pub struct Work {
 pub fn opcode(w: u64) -> u8
     ensures value { result ≡ opcode_of w }
 {
-    (w / 72057594037927936) as u8
+    let [o, _, _, _, _, _, _, _] = w.to_be_bytes();
+    o
 }
 
 #[tactic(auto, unfolding(crate::specs::Site::a_of))]
 pub fn field_a(w: u64) -> u8
     ensures value { result ≡ a_of w }
 {
-    (w / 281474976710656 % 256) as u8
+    let [_, a, _, _, _, _, _, _] = w.to_be_bytes();
+    a
 }
 
 #[tactic(auto, unfolding(crate::specs::Site::b_of))]
 pub fn field_b(w: u64) -> u8
     ensures value { result ≡ b_of w }
 {
-    (w / 1099511627776 % 256) as u8
+    let [_, _, b, _, _, _, _, _] = w.to_be_bytes();
+    b
 }
 
 #[tactic(auto, unfolding(crate::specs::Site::c_of))]
 pub fn field_c(w: u64) -> u8
     ensures value { result ≡ c_of w }
 {
-    (w / 4294967296 % 256) as u8
+    let [_, _, _, c, _, _, _, _] = w.to_be_bytes();
+    c
 }
 
 #[tactic(auto, unfolding(crate::specs::Site::d_of))]
@@ -101,28 +114,20 @@ pub fn field_d(w: u64) -> u32
 fn first_of(o: u8, w: u64) -> u8
     ensures value { result ≡ first_of o w }
 {
-    if o == 4 {
-        return field_a(w);
+    match o {
+        4 | 11 | 20 => field_a(w),
+        _ => field_b(w),
     }
-    if o == 11 {
-        return field_a(w);
-    }
-    if o == 20 {
-        return field_a(w);
-    }
-    field_b(w)
 }
 
 fn second_of(o: u8, w: u64) -> u8
     ensures value { result ≡ second_of o w }
 {
-    if o == 4 {
-        return field_b(w);
+    match o {
+        4 => field_b(w),
+        9 => field_a(w),
+        _ => field_c(w),
     }
-    if o == 9 {
-        return field_a(w);
-    }
-    field_c(w)
 }
 
 // Which values the instruction looks at. A register's number is below 16: so no test of it is compiled.
@@ -136,80 +141,12 @@ pub fn wanted(s: Site) -> Want
         second: (second_of(o, s.word) % 16) as usize,
         field: field_c(s.word) as usize,
         fixed: field_b(s.word) as usize,
-        none: cells::zero_value(),
+        none: Value::default(),
         class: 64,
     }
 }
 
-pub fn is_branch(s: Site) -> bool
-    ensures value { result ≡ eqb s.opcode 4 }
-{
-    s.opcode == 4
-}
-
-pub fn is_binop(s: Site) -> bool
-    ensures value { result ≡ eqb s.opcode 5 }
-{
-    s.opcode == 5
-}
-
-pub fn is_iget(s: Site) -> bool
-    ensures value { result ≡ eqb s.opcode 8 }
-{
-    s.opcode == 8
-}
-
-pub fn is_iput(s: Site) -> bool
-    ensures value { result ≡ eqb s.opcode 9 }
-{
-    s.opcode == 9
-}
-
-pub fn is_sget(s: Site) -> bool
-    ensures value { result ≡ eqb s.opcode 10 }
-{
-    s.opcode == 10
-}
-
-pub fn is_sput(s: Site) -> bool
-    ensures value { result ≡ eqb s.opcode 11 }
-{
-    s.opcode == 11
-}
-
-pub fn is_class(s: Site) -> bool
-    ensures value { result ≡ is_class s }
-{
-    let o = s.opcode;
-    if o == 19 {
-        return true;
-    }
-    o == 20
-}
-
-// Whether the instruction does not stay in its frame.
-pub fn leaves(s: Site) -> bool
-    ensures value { result ≡ leaves_of s }
-{
-    let o = s.opcode;
-    if o == 7 {
-        return true;
-    }
-    if o == 12 {
-        return true;
-    }
-    if o == 13 {
-        return true;
-    }
-    if o == 16 {
-        return true;
-    }
-    if o == 17 {
-        return true;
-    }
-    o == 18
-}
-
+// An instruction that does not stay in its frame.
 pub fn left(s: Site) -> Gone
     ensures value { result ≡ left_at s }
 {

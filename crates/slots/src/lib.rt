@@ -2,121 +2,73 @@
 // that no program has gives a mask with no bit.
 #![tactic(auto)]
 
-ghost use Rattle.std.specs.Prelude.{◌≡◌, get_or, set};
-ghost use Rattle.flow.specs.Claim.{register_at, result_at, field_of, static_of, returned_by, leaving};
-ghost use Rattle.slots.specs.Layout.{row_of, place_of, mask_at, claim_in};
+ghost use Rattle.std.specs.Prelude.{◌≡◌, set};
+ghost use Rattle.slots.specs.Layout.{row_of, place_of, claim_in};
+ghost use Rattle.slots.specs.Named.{slot_of};
 
 use mask::Mask;
 
+// A slot of a claim, by the numbers that name it: what one of its masks is of.
+#[derive(Clone, Copy)]
+pub enum Slot {
+    // A register of a method at an address.
+    Register(usize, usize, usize),
+    // The result of a method at an address.
+    Result(usize, usize),
+    // A field of a class.
+    Field(usize, usize),
+    Static(usize),
+    // What a method returns, and the exceptions that leave it.
+    Returned(usize),
+    Leaving(usize),
+}
+
 // The place of register 0 at an address of a method.
+#[tactic(auto, unfolding(crate::specs::Layout::row_of))]
 pub fn row(m: usize, pc: usize) -> usize
     ensures value { result ≡ row_of m pc }
 {
-    if m < 16 {
-        if pc < 32 {
-            return (m * 32 + pc) * 17;
-        }
+    if m < 16 && pc < 32 {
+        (m * 32 + pc) * 17
+    } else {
+        9712
     }
-    9712
 }
 
-pub fn register_place(m: usize, pc: usize, r: usize) -> usize
-    ensures value { result ≡ place_of (register_at m pc r) }
+// The place of a slot's mask; past the last one of a slot that no program has.
+#[inline(always)]
+#[tactic(auto, using(crate::proofs::Places::row_most), unfolding(crate::specs::Layout::place_of))]
+pub fn place(slot: Slot) -> usize
+    ensures value { result ≡ place_of (slot_of slot) }
 {
-    if r < 16 { row(m, pc) + r } else { 9712 }
-}
-
-pub fn result_place(m: usize, pc: usize) -> usize
-    ensures value { result ≡ place_of (result_at m pc) }
-{
-    row(m, pc) + 16
-}
-
-pub fn field_place(c: usize, x: usize) -> usize
-    ensures value { result ≡ place_of (field_of c x) }
-{
-    if c < 60 {
-        if x < 16 {
-            return 8704 + c * 16 + x;
-        }
+    match slot {
+        Slot::Register(m, pc, r) if r < 16 => row(m, pc) + r,
+        Slot::Result(m, pc) => row(m, pc) + 16,
+        Slot::Field(c, x) if c < 60 && x < 16 => 8704 + c * 16 + x,
+        Slot::Static(x) if x < 16 => 9664 + x,
+        Slot::Returned(m) if m < 16 => 9680 + m,
+        Slot::Leaving(m) if m < 16 => 9696 + m,
+        _ => 9712,
     }
-    9712
 }
 
-pub fn static_place(x: usize) -> usize
-    ensures value { result ≡ place_of (static_of x) }
-{
-    if x < 16 { 9664 + x } else { 9712 }
-}
-
-pub fn returned_place(m: usize) -> usize
-    ensures value { result ≡ place_of (returned_by m) }
-{
-    if m < 16 { 9680 + m } else { 9712 }
-}
-
-pub fn leaving_place(m: usize) -> usize
-    ensures value { result ≡ place_of (leaving m) }
-{
-    if m < 16 { 9696 + m } else { 9712 }
-}
-
-fn element(ws: &[u64], i: usize) -> u64
-    ensures value { result ≡ get_or ws.now i 0 }
-{
-    if i < ws.len() { ws[i] } else { 0 }
-}
-
-// The mask at a place; past the last one with no bit.
-fn mask_at(w: &[u64; 9712], i: usize) -> Mask
-    ensures value { result ≡ mask_at w.now i }
+// The mask of a slot.
+#[inline(always)]
+#[tactic(auto, unfolding(crate::specs::Layout::claim_in))]
+pub fn mask(w: &[u64; 9712], slot: Slot) -> Mask
+    ensures value { result ≡ claim_in w.now (slot_of slot) }
 {
     Mask {
-        bits: element(w, i),
+        bits: w.get(place(slot)).copied().unwrap_or(0),
     }
 }
 
-// Writes a mask's bits at a place; past the last, nothing.
-pub fn put(w: &mut [u64], i: usize, bits: u64)
-    ensures memory { w.new ≡ set w.old i bits }
+// Writes an element, as a mask's bits; past the last one, nothing.
+pub fn put<T: Copy>(w: &mut [T], i: usize, element: T)
+    ensures memory { w.new ≡ set w.old i element }
 {
+    // Stays: the contract of `get_mut` says nothing of the elements after a write through it.
     if i < w.len() {
-        w[i] = bits;
+        w[i] = element;
     }
-}
-
-pub fn register(w: &[u64; 9712], m: usize, pc: usize, r: usize) -> Mask
-    ensures value { result ≡ claim_in w.now (register_at m pc r) }
-{
-    mask_at(w, register_place(m, pc, r))
-}
-
-pub fn result(w: &[u64; 9712], m: usize, pc: usize) -> Mask
-    ensures value { result ≡ claim_in w.now (result_at m pc) }
-{
-    mask_at(w, result_place(m, pc))
-}
-
-pub fn field(w: &[u64; 9712], c: usize, x: usize) -> Mask
-    ensures value { result ≡ claim_in w.now (field_of c x) }
-{
-    mask_at(w, field_place(c, x))
-}
-
-pub fn of_static(w: &[u64; 9712], x: usize) -> Mask
-    ensures value { result ≡ claim_in w.now (static_of x) }
-{
-    mask_at(w, static_place(x))
-}
-
-pub fn returned(w: &[u64; 9712], m: usize) -> Mask
-    ensures value { result ≡ claim_in w.now (returned_by m) }
-{
-    mask_at(w, returned_place(m))
-}
-
-pub fn leaving(w: &[u64; 9712], m: usize) -> Mask
-    ensures value { result ≡ claim_in w.now (leaving m) }
-{
-    mask_at(w, leaving_place(m))
 }

@@ -22,16 +22,14 @@ use Rattle.bounded.specs.declared.Outcome.{Outcome}
 use Rattle.bounded.specs.Bounded.{bounded}
 use Rattle.bounded.specs.Step.{Stepping, stepping_number, stepping_values, number_of, values_of, pending_values, pending_in}
 use Rattle.bounded.specs.Lent.{enough, lending, frames_left, objects_left, statics_left}
-use Rattle.store.specs.Store.{filled}
 use Rattle.laid.proofs.Start.{frames_start, objects_start, statics_start}
 use Rattle.shift.specs.declared.Run.{Run}
-use Rattle.drive.specs.Models.{Lent, looped}
+use Rattle.drive.specs.Models.{Lent}
 use Rattle.lies.specs.Lies.{status_of, Roomy, Lies}
-use Rattle.begun.specs.Begun.{start_run, started, pending_of}
-use Rattle.begun.proofs.Told.{ended_refused, ended_short, ended_ran}
+use Rattle.begun.specs.Begun.{start_run, pending_of}
 use Rattle.ran.specs.Ran.{Finished}
 use Rattle.ran.proofs.Run.{ran}
-use Rattle.stepper.specs.Start.{zeroed, start_done, beginning, tables, step_done}
+use Rattle.stepper.specs.Start.{zeroed, start_done, step_done}
 
 -- slices have no element at the last number of a word
 pub record Ending (m : Lent) : Type 0 where
@@ -66,24 +64,23 @@ module _ (text : List ℕ) (n : ℕ) (m : Lent) (ending : Ending m) where
   abbrev room : Bool
   room = enough (length m.frames) (length m.objects) (length m.statics)
 
-  abbrev k : Run
-  k = (start_done (tables text) m (beginning text n m)).result
-
-  module _ (number line : ℕ) (e : read_program text ≡ refused number line) where
-    refused_answered : Answered x (step_done text n m).result m (step_done text n m).memory
-    unfolding lending step_done start_done looped filled
-    refused_answered =
-        rw (ended_refused text n (length m.frames) (length m.objects) (length m.statics) k number line e)
-        (rw e ((refl, refl), (refl, refl, refl)))
+  refused_answered : (number line : ℕ) → read_program text ≡ refused number line → Answered x (step_done text n m).result m (step_done text n m).memory
+  unfolding lending step_done
+  refused_answered number line e = rw e ((refl, refl), (refl, refl, refl))
 
   module _ (p : Program) (e : read_program text ≡ taken p) where
     short_answered : room ≡ false → Answered x (step_done text n m).result m (step_done text n m).memory
-    unfolding lending step_done start_done looped filled
-    short_answered few =
-        rw (ended_short text n (length m.frames) (length m.objects) (length m.statics) k p e few)
-        (rw (e, few) ((refl, refl), (refl, refl, refl)))
+    unfolding lending step_done
+    short_answered few = rw (e, few) ((refl, refl), (refl, refl, refl))
 
     module _ (many : room ≡ true) where
+      -- the run at the start, and what it comes to
+      abbrev first : Run
+      first = start_run (min n 1000000)
+
+      abbrev last : Run
+      last = (start_done (tables_of p) m first).result
+
       formed : Formed p
       formed = well_formed text p e
 
@@ -102,7 +99,7 @@ module _ (text : List ℕ) (n : ℕ) (m : Lent) (ending : Ending m) where
             statics_end = ending.statics;
           }
 
-      lies : Lies (start p) m (start_run (min n 1000000)).tally (zeroed m (started n))
+      lies : Lies (start p) m first.tally (zeroed m)
       lies =
           record {
             depth = refl;
@@ -116,21 +113,18 @@ module _ (text : List ℕ) (n : ℕ) (m : Lent) (ending : Ending m) where
             waiting = tt;
           }
 
-      finished : Finished (bounded p n) m (min n 1000000) (start_done (tables_of p) m (started n)).result (start_done (tables_of p) m (started n)).memory
+      finished : Finished (bounded p n) m (min n 1000000) last (start_done (tables_of p) m first).memory
       unfolding bounded start_done
       finished =
           let small : min n 1000000 < 18446744073709551615 = omega arith in
-          rw same at (ran (tables_of p) (rw same formed) m roomy (min n 1000000) small (zeroed m (started n)) (start p) (rw same (start_shaped p)) lies)
-
-      begins : start_done (tables text) m (beginning text n m) ≡ start_done (tables_of p) m (started n)
-      begins = rw (e, many) refl
+          rw same at (ran (tables_of p) (rw same formed) m roomy (min n 1000000) small (zeroed m) (start p) (rw same (start_shaped p)) lies)
 
       ran_answered : Answered x (step_done text n m).result m (step_done text n m).memory
       unfolding lending step_done
       ran_answered =
           let f = finished in
-          rw (begins, ended_ran text n (length m.frames) (length m.objects) (length m.statics) (start_done (tables_of p) m (started n)).result p e many, e, many)
-          ((ap halt_number f.halt, rw (f.count, f.depth, f.made, pending_is (start_done (tables_of p) m (started n)).result.tally.status, f.status) refl), (f.frames, f.objects, f.statics))
+          rw (e, many)
+          ((ap halt_number f.halt, rw (f.count, f.depth, f.made, pending_is last.tally.status, f.status) refl), (f.frames, f.objects, f.statics))
 
   by_room : (b : Bool) → room ≡ b → (p : Program) → read_program text ≡ taken p → Answered x (step_done text n m).result m (step_done text n m).memory
   by_room true many p e = ran_answered p e many

@@ -1,3 +1,2 @@
--- What `step` answers, and that the start of a run keeps the lent slices' lengths.
-pub mod Kept
+-- What `step` answers.
 pub mod Answers

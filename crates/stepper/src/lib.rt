@@ -7,31 +7,33 @@ ghost use Rattle.bounded.specs.Lent.{lending, frames_left, objects_left, statics
 ghost use Rattle.drive.specs.Models.{done, lent};
 ghost use Rattle.stepper.specs.Start.{start_done};
 
-use begun::Beginning;
 use bounded::Outcome;
 use cells::{Frame, Object, Value};
+use drive::Lent;
 use shift::Run;
 
-// Makes lent slices zero as far as a beginning says, and makes its run.
+// Makes lent slices zero as far as a state reaches, and makes a run.
 #[tactic(auto, unfolding(crate::specs::Start::start_done))]
 fn start(
     t: &[u64; 768],
     frames: &mut [Frame],
     objects: &mut [Object],
     statics: &mut [Value],
-    b: Beginning,
+    first: Run,
 ) -> Run
     ensures after { let before = lent frames.old objects.old statics.old in
         let after = lent frames.new objects.new statics.new in
-        done result after ≡ start_done t.now before b }
+        done result after ≡ start_done t.now before first }
 {
-    let f = cells::zero_frame();
-    let o = cells::zero_object();
-    let v = cells::zero_value();
-    store::fill_frames(frames, b.frames, f);
-    store::fill_objects(objects, b.objects, o);
-    store::fill_statics(statics, b.statics, v);
-    rounds::run(t, frames, objects, statics, b.run)
+    store::fill(frames, 32, Frame::default());
+    store::fill(objects, 256, Object::default());
+    store::fill(statics, 16, Value::default());
+    let mut m = Lent {
+        frames,
+        objects,
+        statics,
+    };
+    rounds::run(t, &mut m, first)
 }
 
 // Runs a program text for at most n steps. Refused, or short of memory: lent memory is as it was. Else it holds the state.
@@ -50,10 +52,11 @@ pub fn step(
         × (statics.new ≡ statics_left x statics.old) }
 {
     let mut t = [0u64; 768];
-    let f = frames.len();
-    let o = objects.len();
-    let s = statics.len();
-    let b = begun::begin(text, n, &mut t, f, o, s);
-    let k = start(&t, frames, objects, statics, b);
-    begun::ended(b, k)
+    match begun::begin(text, n, &mut t, frames.len(), objects.len(), statics.len()) {
+        Ok(first) => {
+            let last = start(&t, frames, objects, statics, first);
+            begun::ended(first, last)
+        }
+        Err(e) => e.into(),
+    }
 }

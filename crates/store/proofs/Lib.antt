@@ -1,2 +1,2 @@
 -- What the proofs of the functions use, and crates above.
-pub mod Fill
+pub mod Filled

@@ -1,7 +1,8 @@
 -- Digits and other bytes: the tests of a digit as one equation, a list of digits with one more, and the run that starts with
 -- digits. Assumes nothing.
 use mathlib.Core.Path.{◌≡◌, refl, sym, ◌∙◌}
-use mathlib.Core.Bool.{true, ◌&&◌, ◌||◌, and_assoc, and-true, and-false}
+use Rattle.std.specs.List.{fold, prefix_len}
+use mathlib.Core.Bool.{Bool, true, ◌&&◌, ◌||◌, and_assoc, and-true, and-false}
 use mathlib.Core.List.{List, [], ◌∷◌, ◌++◌}
 use Prim.Native.Nat.{ℕ, zero, suc, ◌+◌, ◌-◌, ◌<◌, ◌≤◌}
 use native.Mathlib.Numerals.{add-one}
@@ -97,3 +98,19 @@ pub run_past : (s : List ℕ) (i n : ℕ) → n ≤ length s - i → all_digits 
     → i + digit_run (drop i s) ≡ i + n + digit_run (drop (i + n) s)
 run_past s i n l d =
     rw (← drop-drop n i s) (omega (arith, run_from n (drop i s) (rw (length-drop i s) l) d))
+
+-- digits, tested one after another
+pub tested : (a : Bool) (bs : List ℕ) → fold (λ all b. all && ltb (digit_of b) 16) a bs ≡ a && all_digits bs
+unfolding all_digits
+tested a [] = simp and-true
+tested a (b ∷ bs) = tested (a && ltb (digit_of b) 16) bs ∙ and_assoc a (ltb (digit_of b) 16) (all_digits bs)
+
+-- the digits in front
+pub run_front : (s : List ℕ) → prefix_len (λ b. ltb (digit_of b) 16) s ≡ digit_run s
+unfolding digit_run
+run_front [] = refl
+run_front (b ∷ s) =
+    by_test
+    (ltb (digit_of b) 16)
+    (λ t. rw t (omega (arith, run_front s)))
+    (λ t. rw t refl)

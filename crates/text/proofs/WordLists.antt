@@ -1,10 +1,11 @@
 -- The word of bytes and the number of digits at a place, from those of two parts. Assumes nothing.
-use mathlib.Core.Path.{◌≡◌, refl, sym, ◌∙◌}
+use mathlib.Core.Path.{◌≡◌, refl, ◌∙◌}
 use mathlib.Core.List.{List, [], ◌∷◌, ◌++◌}
-use Prim.Native.Nat.{ℕ, ◌+◌, ◌*◌, ◌%◌, ◌^◌, ◌≤◌, ◌<◌}
+use Prim.Native.Nat.{ℕ, suc, ◌+◌, ◌*◌, ◌%◌, ◌^◌, ◌≤◌, ◌<◌}
+use native.Mathlib.Numerals.{add-one}
+use Rattle.std.specs.Int.{from_le_bytes, w32, w64}
 use native.Mathlib.Nat.{pow-succ', mul_assoc, mul_comm, add-mul}
 use native.Mathlib.Omega.{arith}
-use lib.Bits.{bit_or, or_shifted_r}
 use lib.ListN.{length, take, drop, get_or, length-drop}
 use lib.Seq.{drop-cons, drop-drop, length-take-le, take-add}
 use Rattle.text.specs.Hex.{digit_of, number_from, number_of}
@@ -58,20 +59,50 @@ module _ (s : List ℕ) (at n : ℕ) (room : at + (n + n) ≤ length s) where
       (number_after 0 (take n (drop at s)) (take n (drop (at + n) s))
       ∙ rw second at (number_from_lem (number_of (take n (drop at s))) (take n (drop (at + n) s))))
 
--- the word of one byte
-pub word_one : (s : List ℕ) (at : ℕ) → at < length s → get_or s at 0 ≡ word_of (take 1 (drop at s))
+-- the word of the bytes at a place: the first byte lowest, then the others
+next_byte : (n : ℕ) (s : List ℕ) (i j : ℕ) → i + 1 ≡ j → i < length s
+    → word_of (take (suc n) (drop i s)) ≡ word_of (take n (drop j s)) * 256 + get_or s i 0
 unfolding word_of
-word_one s at l = rw (drop-cons s at 0 l) (omega arith)
+next_byte n s i j e l = rw (drop-cons s i 0 l, ← e, add-one i) refl
+
+no_byte : (s : List ℕ) → word_of (take 0 s) ≡ 0
+unfolding word_of
+no_byte s = refl
+
+-- four bytes at a place, read as one number
+pub four_bytes : (s : List ℕ) (at : ℕ) → at + 4 ≤ length s
+    → from_le_bytes w32 (get_or s at 0 ∷ get_or s (at + 1) 0 ∷ get_or s (at + 2) 0 ∷ get_or s (at + 3) 0 ∷ [])
+    ≡ word_of (take 4 (drop at s))
+four_bytes s at l =
+    omega (
+      arith,
+      next_byte 3 s at (at + 1) (omega arith) (omega arith),
+      next_byte 2 s (at + 1) (at + 2) (omega arith) (omega arith),
+      next_byte 1 s (at + 2) (at + 3) (omega arith) (omega arith),
+      next_byte 0 s (at + 3) (at + 4) (omega arith) (omega arith),
+      no_byte (drop (at + 4) s),
+    )
+
+-- eight
+pub eight_bytes : (s : List ℕ) (at : ℕ) → at + 8 ≤ length s
+    → from_le_bytes w64 (get_or s at 0 ∷ get_or s (at + 1) 0 ∷ get_or s (at + 2) 0 ∷ get_or s (at + 3) 0
+    ∷ get_or s (at + 4) 0 ∷ get_or s (at + 5) 0 ∷ get_or s (at + 6) 0 ∷ get_or s (at + 7) 0 ∷ [])
+    ≡ word_of (take 8 (drop at s))
+eight_bytes s at l =
+    omega (
+      arith,
+      next_byte 7 s at (at + 1) (omega arith) (omega arith),
+      next_byte 6 s (at + 1) (at + 2) (omega arith) (omega arith),
+      next_byte 5 s (at + 2) (at + 3) (omega arith) (omega arith),
+      next_byte 4 s (at + 3) (at + 4) (omega arith) (omega arith),
+      next_byte 3 s (at + 4) (at + 5) (omega arith) (omega arith),
+      next_byte 2 s (at + 5) (at + 6) (omega arith) (omega arith),
+      next_byte 1 s (at + 6) (at + 7) (omega arith) (omega arith),
+      next_byte 0 s (at + 7) (at + 8) (omega arith) (omega arith),
+      no_byte (drop (at + 8) s),
+    )
 
 -- the word of bytes after four digits `0`
 pub word_after_zeros : (bs : List ℕ) → word_of (48 ∷ 48 ∷ 48 ∷ 48 ∷ bs) ≡ 808464432 + 4294967296 * word_of bs
 unfolding word_of
 word_after_zeros bs = omega arith
-
--- two words of n bytes each, joined by bits: k bits in the low one
-pub word_joined : (s : List ℕ) (at n k x y : ℕ) → at + (n + n) ≤ length s → 256 ^ n ≡ 2 ^ k → x < 2 ^ k
-    → x ≡ word_of (take n (drop at s)) → y ≡ word_of (take n (drop (at + n) s))
-    → (bit_or x (y * 2 ^ k) ≡ word_of (take (n + n) (drop at s))) × (bit_or x (y * 2 ^ k) ≡ y * 2 ^ k + x)
-word_joined s at n k x y room width l e f =
-    let sum : bit_or x (y * 2 ^ k) ≡ y * 2 ^ k + x = or_shifted_r y k x l in
-    (sum ∙ rw (e, f, ← width) (sym (word_halves s at n room)), sum)

@@ -3,12 +3,13 @@
 
 mod words; // words.rt: eight digits in one word
 
-ghost use Rattle.std.specs.Prelude.{◌≡◌, ◌+◌, ◌-◌, ◌≤◌, min, ltb, length, take, drop};
+ghost use Rattle.std.specs.Prelude.{◌≡◌, ◌+◌, ◌-◌, ◌≤◌, min, leb, ltb, length, take, drop};
 ghost use Rattle.text.specs.Hex.{digit_of, all_digits, lines_of, line_read_of, number_of, digits_at};
 ghost use Rattle.text.specs.Run.{digit_run};
 ghost use Rattle.text.specs.Words.{value_of, two_at, four_at, sixteen_at, repeats_at};
 
 // What stands at a place of a text.
+// Stays: of three answers each has its own refusal above; `Result<Option<usize>, Broken>` would nest two types for the same three.
 #[derive(Clone, Copy)]
 pub enum LineRead {
     // A whole line, of so many digits, and its end after them.
@@ -20,22 +21,15 @@ pub enum LineRead {
 }
 
 // The value of a digit, 16 for any other byte.
+#[tactic(auto, unfolding(crate::specs::Hex::digit_of))]
 pub fn digit(b: u8) -> u8
     ensures value { result ≡ digit_of b }
 {
-    if b < 48 {
-        return 16;
+    match b {
+        b'0'..=b'9' => b - b'0',
+        b'a'..=b'f' => b - b'a' + 10,
+        _ => 16,
     }
-    if b < 58 {
-        return b - 48;
-    }
-    if b < 97 {
-        return 16;
-    }
-    if b < 103 {
-        return b - 87;
-    }
-    16
 }
 
 // Whether a byte is a digit, without a branch.
@@ -50,45 +44,32 @@ fn block(text: &[u8], at: usize) -> bool
     requires { at + 16 ≤ length text.now }
     ensures digits { result ≡ all_digits (take 16 (drop at text.now)) }
 {
-    let mut all = true;
-    let mut i = 0;
-    while i < 16 {
-        all = all & is_digit(text[at + i]);
-        i += 1;
-    }
-    all
+    text[at..at + 16]
+        .iter()
+        .fold(true, |all, &b| all & is_digit(b))
 }
 
 // A place from which on the run at a place ends where it does, after the blocks of digits there.
 fn after_blocks(text: &[u8], at: usize) -> usize
-    ensures place { at ≤ result }
+    requires { at ≤ length text.now }
+    ensures place { (at ≤ result) × (result ≤ length text.now) }
     ensures end { at + digit_run (drop at text.now) ≡ result + digit_run (drop result text.now) }
 {
-    if at >= text.len() {
-        return at;
-    }
+    // Stays: a `for` over `chunks_exact(16)` counts the same place beside the chunks, and std names no list of what those yield.
     let mut i = at;
-    while text.len() - i >= 16 {
-        if !block(text, i) {
-            return i;
-        }
+    while text.len() - i >= 16 && block(text, i) {
         i += 16;
     }
     i
 }
 
-// How many digits stand at a place, none past the end.
+// How many digits stand at a place.
 fn run(text: &[u8], at: usize) -> usize
+    requires { at ≤ length text.now }
     ensures digits { result ≡ digit_run (drop at text.now) }
 {
-    let mut i = after_blocks(text, at);
-    while i < text.len() {
-        if digit(text[i]) >= 16 {
-            return i - at;
-        }
-        i += 1;
-    }
-    i - at
+    let i = after_blocks(text, at);
+    i - at + text[i..].iter().take_while(|&&b| is_digit(b)).count()
 }
 
 // The line that stands at a place.
@@ -99,39 +80,18 @@ pub fn line_at(text: &[u8], at: usize) -> LineRead
         return LineRead::End;
     }
     let n = run(text, at);
-    if n >= text.len() - at {
-        return LineRead::Broken;
+    if n < text.len() - at && text[at + n] == b'\n' && n != 0 && n % 2 == 0 {
+        LineRead::Whole(n)
+    } else {
+        LineRead::Broken
     }
-    if text[at + n] != 10 {
-        return LineRead::Broken;
-    }
-    if n == 0 {
-        return LineRead::Broken;
-    }
-    if n % 2 != 0 {
-        return LineRead::Broken;
-    }
-    LineRead::Whole(n)
 }
 
 // How many digits a number at a place has: `count`, at most 16, at most what the text has from there on.
 fn width(text: &[u8], at: usize, count: usize) -> usize
     ensures least { result ≡ min (min count 16) (length text.now - at) }
 {
-    if at >= text.len() {
-        return 0;
-    }
-    let left = text.len() - at;
-    if count <= 16 {
-        if count <= left {
-            return count;
-        }
-        return left;
-    }
-    if left <= 16 {
-        return left;
-    }
-    16
+    count.min(16).min(text.len().saturating_sub(at))
 }
 
 // The number of n digits at a place, the high digit first.
@@ -140,10 +100,8 @@ fn first(text: &[u8], at: usize, n: usize) -> u64
     ensures value { result ≡ number_of (take n (drop at text.now)) }
 {
     let mut value: u64 = 0;
-    let mut i = 0;
-    while i < n {
+    for i in 0..n {
         value = value * 16 + (digit(text[at + i]) % 16) as u64;
-        i += 1;
     }
     value
 }
@@ -153,10 +111,8 @@ pub fn number_at(text: &[u8], at: usize, count: usize) -> u64
     ensures value { result ≡ number_of (digits_at text.now at count) }
 {
     let n = width(text, at, count);
-    if n == 16 {
-        if block(text, at) {
-            return words::sixteen(text, at);
-        }
+    if n == 16 && block(text, at) {
+        return words::sixteen(text, at);
     }
     first(text, at, n)
 }
@@ -168,50 +124,49 @@ fn value(b: u8) -> u64
     (b % 16 + 9 * (b / 64 % 2)) as u64
 }
 
+// Whether so many bytes stand at a place.
+fn holds(text: &[u8], at: usize, count: usize) -> bool
+    ensures value { result ≡ leb count (length text.now - at) }
+{
+    text.len().saturating_sub(at) >= count
+}
+
 // What the 2 bytes at a place say, as digits; 0 where fewer stand there. It does not test them: if both are digits, this is their number.
 pub fn two_at(text: &[u8], at: usize) -> u64
     ensures value { result ≡ two_at text.now at }
 {
-    if at < text.len() {
-        if text.len() - at >= 2 {
-            return value(text[at]) * 16 + value(text[at + 1]);
-        }
+    if holds(text, at, 2) {
+        value(text[at]) * 16 + value(text[at + 1])
+    } else {
+        0
     }
-    0
 }
 
 // What the 4 bytes at a place say, as digits; 0 where fewer stand there. It does not test them: if all are digits, this is their number.
 pub fn four_at(text: &[u8], at: usize) -> u64
     ensures value { result ≡ four_at text.now at }
 {
-    if at < text.len() {
-        if text.len() - at >= 4 {
-            return words::four_digits(text, at);
-        }
+    if holds(text, at, 4) {
+        words::four_digits(text, at)
+    } else {
+        0
     }
-    0
 }
 
 // What the 16 bytes at a place say, as digits; 0 where fewer stand there. It does not test them: if all are digits, this is their number.
 pub fn sixteen_at(text: &[u8], at: usize) -> u64
     ensures value { result ≡ sixteen_at text.now at }
 {
-    if at < text.len() {
-        if text.len() - at >= 16 {
-            return words::sixteen(text, at);
-        }
+    if holds(text, at, 16) {
+        words::sixteen(text, at)
+    } else {
+        0
     }
-    0
 }
 
 // Whether the 16 bytes at a place stand there again after them.
 pub fn repeats(text: &[u8], at: usize) -> bool
     ensures value { result ≡ repeats_at text.now at }
 {
-    if at < text.len() {
-        if text.len() - at >= 32 {
-            return words::repeats(text, at);
-        }
-    }
-    false
+    holds(text, at, 32) && words::repeats(text, at)
 }

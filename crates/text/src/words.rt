@@ -2,39 +2,13 @@
 ghost use Rattle.std.specs.Prelude.{◌≡◌, ◌+◌, ◌%◌, ◌≤◌, ◌<◌, length, take, drop};
 ghost use Rattle.text.specs.Words.{word_of, values_of, pairs_of, quads_of, eight_of, packed_at, four_of, sixteen_of, same_words};
 
-// A byte as a word.
-fn wide(b: u8) -> u64
-    ensures value { result ≡ b }
-    ensures range { result < 256 }
-{
-    b as u64
-}
-
-// The byte at a place, as a word.
-fn one(text: &[u8], at: usize) -> u64
-    requires { at + 1 ≤ length text.now }
-    ensures value { result ≡ word_of (take 1 (drop at text.now)) }
-    ensures range { result < 256 }
-{
-    wide(text[at])
-}
-
-// The word of the two bytes at a place, the first one lowest.
-fn two(text: &[u8], at: usize) -> u64
-    requires { at + 2 ≤ length text.now }
-    ensures value { result ≡ word_of (take 2 (drop at text.now)) }
-    ensures range { result < 65536 }
-{
-    one(text, at) | one(text, at + 1) * 256
-}
-
-// The word of the four bytes at a place.
+// The word of the four bytes at a place, the first one lowest.
 fn four(text: &[u8], at: usize) -> u64
     requires { at + 4 ≤ length text.now }
     ensures value { result ≡ word_of (take 4 (drop at text.now)) }
     ensures range { result < 4294967296 }
 {
-    two(text, at) | two(text, at + 2) * 65536
+    u32::from_le_bytes([text[at], text[at + 1], text[at + 2], text[at + 3]]) as u64
 }
 
 // The word of the eight bytes at a place.
@@ -42,7 +16,16 @@ fn eight(text: &[u8], at: usize) -> u64
     requires { at + 8 ≤ length text.now }
     ensures value { result ≡ word_of (take 8 (drop at text.now)) }
 {
-    four(text, at) | four(text, at + 4) * 4294967296
+    u64::from_le_bytes([
+        text[at],
+        text[at + 1],
+        text[at + 2],
+        text[at + 3],
+        text[at + 4],
+        text[at + 5],
+        text[at + 6],
+        text[at + 7],
+    ])
 }
 
 // The number that the digits in a word say.
@@ -86,9 +69,5 @@ pub fn repeats(text: &[u8], at: usize) -> bool
     ensures value { result ≡ same_words text.now at (at + 16) }
 {
     let next = at + 16;
-    if eight(text, at) == eight(text, next) {
-        eight(text, at + 8) == eight(text, next + 8)
-    } else {
-        false
-    }
+    eight(text, at) == eight(text, next) && eight(text, at + 8) == eight(text, next + 8)
 }

@@ -1,16 +1,10 @@
 // Files by name. What is said of them goes to `told`, and the system's reason to standard error.
-ghost use Rattle.tool.specs.Files.{Filled};
+ghost use Rattle.std.specs.Prelude.{IfOk};
+ghost use Rattle.io.specs.Counts.{IsPrefixLen};
 
 use std::io::{Cursor, Write};
 use std::rt::Files;
 use std::{fs, io, str};
-
-// What came of a file: so many bytes, or a read that failed, and why.
-#[derive(Clone, Copy)]
-pub enum Got {
-    Bytes(usize),
-    Failed(io::Error),
-}
 
 // What the system says of an error, without the number that std writes after it.
 fn reason<'a>(error: io::Error, room: &'a mut [u8]) -> &'a str {
@@ -34,12 +28,6 @@ pub fn fail<R: Eprint>(rt: &R, name: &[u8], error: io::Error) {
     };
 }
 
-// Says that a read failed, and why.
-fn complain<R: Eprint, T: Print>(rt: &R, path: &[u8], error: io::Error, told: &T) {
-    fail(rt, path, error);
-    let _ = told.write_all(b"nothing is printed where a file cannot be read\n");
-}
-
 // Opens a file for reading. Its name must be text.
 fn open<R: Files>(rt: &R, path: &[u8]) -> io::Result<R::File> {
     match str::from_utf8(path) {
@@ -48,30 +36,29 @@ fn open<R: Files>(rt: &R, path: &[u8]) -> io::Result<R::File> {
     }
 }
 
-// Reads a file to the start of the buffer, as much of it as goes in. One that cannot be opened is said, and empty.
+// Reads a file to the start of the buffer, as much of it as goes in: how many bytes, or the error of a read that failed, which is said.
+// A file that cannot be opened is said, and empty.
 pub fn read_file<R: Files + Eprint, T: Print>(
     rt: &R,
     path: &[u8],
     buffer: &mut [u8],
     told: &T,
-) -> Got
-    ensures bytes { Filled result buffer.new }
+) -> io::Result<usize>
+    ensures bytes { IfOk result (λ n. IsPrefixLen n buffer.new) }
 {
-    match open(rt, path) {
-        Ok(mut file) => {
-            let input = input::fill(&mut file, &mut *buffer);
-            match input.error {
-                None => Got::Bytes(input.count),
-                Some(error) => {
-                    complain(rt, path, error, told);
-                    Got::Failed(error)
-                }
-            }
-        }
+    let mut file = match open(rt, path) {
+        Ok(file) => file,
         Err(error) => {
             fail(rt, path, error);
             let _ = told.write_all(b"a file that cannot be opened counts as empty\n");
-            Got::Bytes(0)
+            return Ok(0);
         }
+    };
+    let input = input::fill(&mut file, buffer);
+    if let Some(error) = input.error {
+        fail(rt, path, error);
+        let _ = told.write_all(b"nothing is printed where a file cannot be read\n");
+        return Err(error);
     }
+    Ok(input.count)
 }

@@ -5,26 +5,25 @@ use Prim.Native.Nat.{ℕ, suc, ◌+◌, ◌-◌, ◌<◌}
 use native.Mathlib.Omega.{arith}
 use lib.Dec.{ltb}
 use borrow.Author.Tests.{ltb-true, lt-ltb}
+use Rattle.std.specs.Prelude.{Some}
 use Rattle.text.proofs.Cases.{never}
 use Rattle.instruction.proofs.Flags.{both_true}
 use Rattle.mask.specs.declared.Mask.{Mask}
-use Rattle.mask.specs.Mask.{has, subset}
-use Rattle.mask.proofs.Laws.{has_less, subset_at}
-use Rattle.mask.proofs.Sets.{no_bit, subset_fails}
+use Rattle.mask.specs.Mask.{has, is_empty}
+use Rattle.mask.proofs.Laws.{has_less, empty_none}
 use Rattle.program.specs.Program.{Program, class_count, method_count, arguments}
-use Rattle.search.specs.declared.Callee.TheVariants.{Found}
 use Rattle.search.specs.Search.{virtual_callee}
 use Rattle.machine.proofs.Found.{callee_fits}
 use Rattle.flow.specs.Claim.{Slot, register_at, Claim}
 use Rattle.flow.specs.Flows.{Flows, ◌&◌, each, found, is_found, Holds}
 use Rattle.flow.specs.Rules.{argument_into, parameter, receiver_into, receivers, returned_into, leaving_classes, into_handler, into_leaving}
 use Rattle.flow.proofs.Callees.{found_is, is_found_lem}
-use Rattle.slots.specs.Layout.{mask_of}
 use Rattle.carry.specs.Carried.{arguments_from}
 use Rattle.order.specs.Order.{Below}
 use Rattle.order.specs.Raised.{Goes, Raised, Joined, nothing}
 use Rattle.order.proofs.Flowing.{goes_more}
 use Rattle.order.proofs.Raising.{below_same, below_then}
+use Rattle.raise.proofs.AtOnce.{not_empty}
 use Rattle.transfer.specs.Transfer.{from_callee, called_as, called_by, leading_class, called_from}
 
 -- five rules of a list
@@ -41,7 +40,7 @@ raised_five f g h i j c d r =
 -- ---- the arguments of a static call, its callee named
 module _ (p : Program) (m pc q b r : ℕ) where
   pub all_arguments : (c d : Claim) → Raised (arguments_from p m pc q 0 b r) c d
-      → Raised (found (Found q) (λ callee. each b (argument_into p m pc r callee))) c d
+      → Raised (found (Some q) (λ callee. each b (argument_into p m pc r callee))) c d
   all_arguments c d a =
       record {
         grows = a.grows;
@@ -61,18 +60,18 @@ module _ (p : Program) (m pc q b r : ℕ) where
 
 -- ---- one callee
 module _ (p : Program) (m pc count register q : ℕ) (rs : Mask) where
-  pub called_none : (c : Claim) → subset rs (mask_of 0) ≡ true → Raised (called_by p m pc (has rs) count register q) c c
+  pub called_none : (c : Claim) → is_empty rs ≡ true → Raised (called_by p m pc (has rs) count register q) c c
   called_none c none =
       record {
         grows = below_same c;
-        asked = λ k l t. let no : has (mask_of 0) k ≡ true = subset_at rs (mask_of 0) none k t in let is = no_bit k in never (cc);
+        asked = λ k l t. let no = empty_none rs none k in never (cc);
         least = λ e h b. b;
       }
 
-  pub called_some : (c d e : Claim) → subset rs (mask_of 0) ≡ false → Joined (register_at q 0 (parameter p q 0)) rs c d
+  pub called_some : (c d e : Claim) → is_empty rs ≡ false → Joined (register_at q 0 (parameter p q 0)) rs c d
       → Raised (arguments_from p m pc q 1 count register & from_callee p m pc q) d e → Raised (called_by p m pc (has rs) count register q) c e
   called_some c d e one j a =
-      let (i, t, out) = subset_fails rs (mask_of 0) one in
+      let (i, t) = not_empty rs one in
       record {
         grows = below_then c d e j.grows a.grows;
         asked = λ k l s. (
@@ -96,7 +95,7 @@ module _ (p : Program) (m pc count register q : ℕ) (rs : Mask) where
 -- ---- all callees of a virtual call
 -- a class in the mask and what it leads to
 leading_class_lem : (p : Program) (mask : Mask) (n b q k : ℕ) → leading_class p mask n b q k ≡ true
-    → (k < class_count p) × (has mask k ≡ true) × (virtual_callee p k n b ≡ Found q)
+    → (k < class_count p) × (has mask k ≡ true) × (virtual_callee p k n b ≡ Some q)
 leading_class_lem p mask n b q k t =
     let (l, rest) = both_true (ltb k (class_count p)) (has mask k && is_found (virtual_callee p k n b) q) t in
     let (g, f) = both_true (has mask k) (is_found (virtual_callee p k n b) q) rest in
@@ -112,7 +111,7 @@ module _ (p : Program) (m pc n b r : ℕ) (c d : Claim)
   here = register_at m pc r
 
   -- what is met for class k and the callee that it leads to
-  met : (k : ℕ) → k < class_count p → has (c here) k ≡ true → (q : ℕ) → virtual_callee p k n b ≡ Found q → Goes c d (called_as p m pc b r q k)
+  met : (k : ℕ) → k < class_count p → has (c here) k ≡ true → (q : ℕ) → virtual_callee p k n b ≡ Some q → Goes c d (called_as p m pc b r q k)
   met k l g q f =
       a.asked q (callee_fits p n b q k f).0 k (has_less (c here) k g)
       (rw (lt-ltb k (class_count p) l, g, is_found_lem (virtual_callee p k n b) q f))

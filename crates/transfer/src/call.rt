@@ -3,149 +3,126 @@ ghost use Rattle.std.specs.Prelude.{◌≡◌, true, ℕ, suc, ◌<◌};
 ghost use Rattle.instruction.specs.declared.Instruction.TheVariants.{InvokeVirtual, InvokeStatic};
 ghost use Rattle.mask.specs.Mask.{has};
 ghost use Rattle.program.specs.Program.{method_count, arguments};
-ghost use Rattle.program.specs.Tables.{program_in};
 ghost use Rattle.flow.specs.Flows.{each};
 ghost use Rattle.flow.specs.Rules.{rules_of};
 ghost use Rattle.slots.specs.Layout.{claim_in};
-ghost use Rattle.sets.specs.Sets.{sets_of};
 ghost use Rattle.order.specs.Raised.{all_of};
 ghost use Rattle.raise.specs.Raises.{Flowing};
 ghost use Rattle.transfer.specs.Transfer.{from_callee, called_by, called_from};
+ghost use Rattle.transfer.specs.Site.{program_of};
 
-use crate::own;
+use crate::site::Site;
 use mask::Mask;
 use raise::exceptions;
-use raise::rows::{carry, pass_arguments};
-use raise::words::{join_register, join_result, mark};
+use raise::rows::pass_arguments;
+use raise::words::{CALLEES, join, mark};
+use slots::Slot;
 
-// What comes back from a callee: its returned mask, and the exceptions that leave it.
-fn come_back(
-    t: &[u64; 768],
-    w: &mut [u64; 9712],
-    s: &[u64; 80],
-    m: usize,
-    pc: usize,
-    q: usize,
-) -> u64
-    requires { pc < 32 }
-    ensures raised { let p = program_in t.now in
-        let c = claim_in w.old in
-        let d = claim_in w.new in
-        (s.now ≡ sets_of p → Flowing p m (suc pc) (from_callee p m pc q) c d) }
-{
-    let value = slots::returned(w, q);
-    let new = mark(join_result(&mut *w, m, pc + 1, value), pc + 1);
-    let out = slots::leaving(w, q);
-    new | exceptions::raised(t, w, s, m, pc, out)
-}
-
-pub fn by_method(
-    t: &[u64; 768],
-    w: &mut [u64; 9712],
-    s: &[u64; 80],
-    m: usize,
-    pc: usize,
-    method: u8,
-    count: u8,
-    register: u8,
-) -> u64
-    requires { pc < 32 }
-    ensures raised { let p = program_in t.now in
-        let c = claim_in w.old in
-        let d = claim_in w.new in
-        (s.now ≡ sets_of p → method < method_count p → arguments p method ≡ count
-        → Flowing p m (suc pc) (all_of (rules_of p m pc (InvokeStatic method count register))) c d) }
-{
-    let q = method as usize;
-    let on = carry(t, &mut *w, m, pc, pc + 1);
-    let given = pass_arguments(t, &mut *w, m, pc, q, 0, count, register);
-    let new = on | given;
-    new | come_back(t, w, s, m, pc, q)
-}
-
-// A call of method q by the classes in a mask, if there are any.
-fn take_callee(
-    t: &[u64; 768],
-    w: &mut [u64; 9712],
-    s: &[u64; 80],
-    m: usize,
-    pc: usize,
-    receivers: Mask,
-    count: u8,
-    register: u8,
-    q: usize,
-) -> u64
-    requires { pc < 32 }
-    ensures raised { let p = program_in t.now in
-        let c = claim_in w.old in
-        let d = claim_in w.new in
-        (s.now ≡ sets_of p → 0 < count
-        → ((k : ℕ) → has receivers k ≡ true → (q < method_count p) × (arguments p q ≡ count))
-        → Flowing p m (suc pc) (called_by p m pc (has receivers) count register q) c d) }
-{
-    if receivers.subset(Mask { bits: 0 }) {
-        return 0;
+impl Site<'_> {
+    // What comes back from a callee: its returned mask, and the exceptions that leave it.
+    fn come_back(&self, w: &mut [u64; 9712], q: usize) -> u64
+        ensures raised { let p = program_of self.now in
+            let m = self.now.method in
+            let pc = self.now.address in
+            let c = claim_in w.old in
+            let d = claim_in w.new in
+            Flowing p m (suc pc) (from_callee p m pc q) c d }
+    {
+        let next = self.address + 1;
+        let value = slots::mask(w, Slot::Returned(q));
+        let new = mark(join(&mut *w, Slot::Result(self.method, next), value), next);
+        let out = slots::mask(w, Slot::Leaving(q));
+        new | exceptions::raised(self.sets, w, self.method, self.address, out)
     }
-    let place = carry::locals(t, q);
-    let entered = join_register(&mut *w, q, 0, place, receivers);
-    let given = pass_arguments(t, &mut *w, m, pc, q, 1, count, register);
-    let back = come_back(t, w, s, m, pc, q);
-    if q < 16 {
-        return mark(entered, 32 + q) | given | back;
-    }
-    back
-}
 
-// All callees of a virtual call by the classes in a mask.
-fn take_callees(
-    t: &[u64; 768],
-    w: &mut [u64; 9712],
-    s: &[u64; 80],
-    m: usize,
-    pc: usize,
-    mask: Mask,
-    name: u8,
-    count: u8,
-    register: u8,
-) -> u64
-    requires { pc < 32 }
-    ensures raised { let p = program_in t.now in
-        let c = claim_in w.old in
-        let d = claim_in w.new in
-        (s.now ≡ sets_of p → 0 < count
-        → Flowing p m (suc pc) (each (method_count p) (called_from p m pc mask name count register)) c d) }
-{
-    let n = program::method_count(t);
-    let mut new: u64 = 0;
-    let mut q: usize = 0;
-    while q < n {
-        let receivers = sets::leading(t, s, mask, name as usize, count as usize, q);
-        let more = take_callee(t, &mut *w, s, m, pc, receivers, count, register, q);
-        new = new | more;
-        q += 1;
+    pub fn by_method(&self, w: &mut [u64; 9712], method: u8, count: u8, register: u8) -> u64
+        ensures raised { let p = program_of self.now in
+            let m = self.now.method in
+            let pc = self.now.address in
+            let c = claim_in w.old in
+            let d = claim_in w.new in
+            (method < method_count p → arguments p method ≡ count
+            → Flowing p m (suc pc) (all_of (rules_of p m pc (InvokeStatic method count register))) c d) }
+    {
+        let (t, m, pc) = (self.sets.tables, self.method, self.address);
+        let q = method as usize;
+        let on = self.carry(&mut *w);
+        let given = pass_arguments(t, &mut *w, m, pc, q, 0, count, register);
+        on | given | self.come_back(w, q)
     }
-    new
-}
 
-pub fn by_receiver(
-    t: &[u64; 768],
-    w: &mut [u64; 9712],
-    s: &[u64; 80],
-    m: usize,
-    pc: usize,
-    name: u8,
-    count: u8,
-    register: u8,
-) -> u64
-    requires { pc < 32 }
-    ensures raised { let p = program_in t.now in
-        let c = claim_in w.old in
-        let d = claim_in w.new in
-        (s.now ≡ sets_of p → 0 < count
-        → Flowing p m (suc pc) (all_of (rules_of p m pc (InvokeVirtual name count register))) c d) }
-{
-    let new = carry(t, &mut *w, m, pc, pc + 1);
-    let mask = slots::register(w, m, pc, register as usize);
-    let called = take_callees(t, &mut *w, s, m, pc, mask, name, count, register);
-    new | called | own::null_used(t, w, s, m, pc, register)
+    // A call of method q by the classes in a mask, if there are any.
+    fn take_callee(
+        &self,
+        w: &mut [u64; 9712],
+        receivers: Mask,
+        count: u8,
+        register: u8,
+        q: usize,
+    ) -> u64
+        ensures raised { let p = program_of self.now in
+            let m = self.now.method in
+            let pc = self.now.address in
+            let c = claim_in w.old in
+            let d = claim_in w.new in
+            (0 < count → ((k : ℕ) → has receivers k ≡ true → (q < method_count p) × (arguments p q ≡ count))
+            → Flowing p m (suc pc) (called_by p m pc (has receivers) count register q) c d) }
+    {
+        if receivers.is_empty() {
+            return 0;
+        }
+        let (t, m, pc) = (self.sets.tables, self.method, self.address);
+        let entered = join(
+            &mut *w,
+            Slot::Register(q, 0, carry::locals(t, q)),
+            receivers,
+        );
+        let given = pass_arguments(t, &mut *w, m, pc, q, 1, count, register);
+        let back = self.come_back(w, q);
+        if q < 16 {
+            return mark(entered, CALLEES + q) | given | back;
+        }
+        back
+    }
+
+    // All callees of a virtual call by the classes in a mask.
+    fn take_callees(
+        &self,
+        w: &mut [u64; 9712],
+        mask: Mask,
+        name: u8,
+        count: u8,
+        register: u8,
+    ) -> u64
+        ensures raised { let p = program_of self.now in
+            let m = self.now.method in
+            let pc = self.now.address in
+            let c = claim_in w.old in
+            let d = claim_in w.new in
+            (0 < count → Flowing p m (suc pc) (each (method_count p) (called_from p m pc mask name count register)) c d) }
+    {
+        let mut new: u64 = 0;
+        for q in 0..program::method_count(self.sets.tables) {
+            let receivers = self.sets.leading(mask, name as usize, count as usize, q);
+            new |= self.take_callee(&mut *w, receivers, count, register, q);
+        }
+        new
+    }
+
+    pub fn by_receiver(&self, w: &mut [u64; 9712], name: u8, count: u8, register: u8) -> u64
+        ensures raised { let p = program_of self.now in
+            let m = self.now.method in
+            let pc = self.now.address in
+            let c = claim_in w.old in
+            let d = claim_in w.new in
+            (0 < count → Flowing p m (suc pc) (all_of (rules_of p m pc (InvokeVirtual name count register))) c d) }
+    {
+        let new = self.carry(&mut *w);
+        let mask = slots::mask(
+            w,
+            Slot::Register(self.method, self.address, register as usize),
+        );
+        let called = self.take_callees(&mut *w, mask, name, count, register);
+        new | called | self.null_used(w, register)
+    }
 }

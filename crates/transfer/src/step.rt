@@ -1,130 +1,121 @@
 // Instructions that write no register: where they go on to, what they store, return and throw.
-ghost use Rattle.std.specs.Prelude.{◌≡◌, suc, ◌<◌};
+ghost use Rattle.std.specs.Prelude.{suc, ◌<◌};
 ghost use Rattle.instruction.specs.declared.Instruction.TheVariants.{Iput, Sput, Return, ReturnVoid, Throw};
 ghost use Rattle.program.specs.Program.{code_length};
-ghost use Rattle.program.specs.Tables.{program_in};
 ghost use Rattle.flow.specs.Rules.{onward, rules_of};
 ghost use Rattle.flow.specs.Flows.{◌&◌};
 ghost use Rattle.slots.specs.Layout.{claim_in};
-ghost use Rattle.sets.specs.Sets.{sets_of};
 ghost use Rattle.order.specs.Raised.{all_of, nothing};
 ghost use Rattle.raise.specs.Raises.{Flowing, Leaving};
+ghost use Rattle.transfer.specs.Site.{program_of};
 
-use crate::own;
-use raise::rows::onward;
-use raise::words::mark;
-use raise::{exceptions, masks, words};
+use crate::site::Site;
+use mask::Mask;
+use raise::words::{OUT, STORED, join, mark};
+use raise::{exceptions, masks, rows};
+use slots::Slot;
 
-pub fn to_next(t: &[u64; 768], w: &mut [u64; 9712], m: usize, pc: usize) -> u64
-    requires { pc < 32 }
-    ensures raised { let p = program_in t.now in
-        let c = claim_in w.old in
-        let d = claim_in w.new in
-        Flowing p m (suc pc) (onward p m pc (suc pc) & nothing) c d }
-{
-    onward(t, w, m, pc, pc + 1)
-}
+impl Site<'_> {
+    pub fn to_next(&self, w: &mut [u64; 9712]) -> u64
+        ensures raised { let p = program_of self.now in
+            let m = self.now.method in
+            let pc = self.now.address in
+            let c = claim_in w.old in
+            let d = claim_in w.new in
+            Flowing p m (suc pc) (onward p m pc (suc pc) & nothing) c d }
+    {
+        self.onward(w)
+    }
 
-pub fn to_target(t: &[u64; 768], w: &mut [u64; 9712], m: usize, pc: usize, target: u32) -> u64
-    ensures raised { let p = program_in t.now in
-        let c = claim_in w.old in
-        let d = claim_in w.new in
-        Flowing p m target (onward p m pc target & nothing) c d }
-{
-    onward(t, w, m, pc, target as usize)
-}
+    pub fn to_target(&self, w: &mut [u64; 9712], target: u32) -> u64
+        ensures raised { let p = program_of self.now in
+            let m = self.now.method in
+            let pc = self.now.address in
+            let c = claim_in w.old in
+            let d = claim_in w.new in
+            Flowing p m target (onward p m pc target & nothing) c d }
+    {
+        let to = target as usize;
+        rows::onward(self.sets.tables, w, self.method, self.address, to)
+    }
 
-pub fn to_both(t: &[u64; 768], w: &mut [u64; 9712], m: usize, pc: usize, target: u32) -> u64
-    requires { pc < 32 }
-    ensures raised { let p = program_in t.now in
-        let c = claim_in w.old in
-        let d = claim_in w.new in
-        (target < code_length p m → Flowing p m (suc pc) (onward p m pc (suc pc) & onward p m pc target & nothing) c d) }
-{
-    let new = onward(t, &mut *w, m, pc, pc + 1);
-    new | to_target(t, w, m, pc, target)
-}
+    pub fn to_both(&self, w: &mut [u64; 9712], target: u32) -> u64
+        ensures raised { let p = program_of self.now in
+            let m = self.now.method in
+            let pc = self.now.address in
+            let c = claim_in w.old in
+            let d = claim_in w.new in
+            (target < code_length p m → Flowing p m (suc pc) (onward p m pc (suc pc) & onward p m pc target & nothing) c d) }
+    {
+        let new = self.onward(&mut *w);
+        new | self.to_target(w, target)
+    }
 
-pub fn field_written(
-    t: &[u64; 768],
-    w: &mut [u64; 9712],
-    s: &[u64; 80],
-    m: usize,
-    pc: usize,
-    from: u8,
-    object: u8,
-    field: u8,
-) -> u64
-    requires { pc < 32 }
-    ensures raised { let p = program_in t.now in
-        let c = claim_in w.old in
-        let d = claim_in w.new in
-        (s.now ≡ sets_of p → Flowing p m (suc pc) (all_of (rules_of p m pc (Iput from object field))) c d) }
-{
-    let new = onward(t, &mut *w, m, pc, pc + 1);
-    let mask = slots::register(w, m, pc, object as usize);
-    let value = slots::register(w, m, pc, from as usize);
-    let having = sets::with_field(t, s, mask, field);
-    let stored = mark(
-        masks::into_fields(&mut *w, having, field as usize, value),
-        49,
-    );
-    new | stored | own::null_used(t, w, s, m, pc, object)
-}
+    pub fn field_written(&self, w: &mut [u64; 9712], from: u8, object: u8, field: u8) -> u64
+        ensures raised { let p = program_of self.now in
+            let m = self.now.method in
+            let pc = self.now.address in
+            let c = claim_in w.old in
+            let d = claim_in w.new in
+            Flowing p m (suc pc) (all_of (rules_of p m pc (Iput from object field))) c d }
+    {
+        let (m, pc) = (self.method, self.address);
+        let new = self.onward(&mut *w);
+        let mask = slots::mask(w, Slot::Register(m, pc, object as usize));
+        let value = slots::mask(w, Slot::Register(m, pc, from as usize));
+        let having = self.sets.with_field(mask, field);
+        let stored = masks::into_fields(&mut *w, having, field as usize, value);
+        new | mark(stored, STORED) | self.null_used(w, object)
+    }
 
-pub fn static_written(
-    t: &[u64; 768],
-    w: &mut [u64; 9712],
-    m: usize,
-    pc: usize,
-    from: u8,
-    place: u8,
-) -> u64
-    requires { pc < 32 }
-    ensures raised { let p = program_in t.now in
-        let c = claim_in w.old in
-        let d = claim_in w.new in
-        (place < p.statics → Flowing p m (suc pc) (all_of (rules_of p m pc (Sput from place))) c d) }
-{
-    let new = onward(t, &mut *w, m, pc, pc + 1);
-    let value = slots::register(w, m, pc, from as usize);
-    new | mark(words::join_static(w, place as usize, value), 49)
-}
+    pub fn static_written(&self, w: &mut [u64; 9712], from: u8, place: u8) -> u64
+        ensures raised { let p = program_of self.now in
+            let m = self.now.method in
+            let pc = self.now.address in
+            let c = claim_in w.old in
+            let d = claim_in w.new in
+            (place < p.statics → Flowing p m (suc pc) (all_of (rules_of p m pc (Sput from place))) c d) }
+    {
+        let new = self.onward(&mut *w);
+        let value = slots::mask(w, Slot::Register(self.method, self.address, from as usize));
+        new | mark(join(w, Slot::Static(place as usize), value), STORED)
+    }
 
-pub fn returned(t: &[u64; 768], w: &mut [u64; 9712], m: usize, pc: usize, from: u8) -> u64
-    ensures raised { let p = program_in t.now in
-        let c = claim_in w.old in
-        let d = claim_in w.new in
-        Leaving p m (all_of (rules_of p m pc (Return from))) c d }
-{
-    let value = slots::register(w, m, pc, from as usize);
-    mark(words::join_returned(w, m, value), 48)
-}
+    pub fn returned(&self, w: &mut [u64; 9712], from: u8) -> u64
+        ensures raised { let p = program_of self.now in
+            let m = self.now.method in
+            let pc = self.now.address in
+            let c = claim_in w.old in
+            let d = claim_in w.new in
+            Leaving p m (all_of (rules_of p m pc (Return from))) c d }
+    {
+        let value = slots::mask(w, Slot::Register(self.method, self.address, from as usize));
+        mark(join(w, Slot::Returned(self.method), value), OUT)
+    }
 
-pub fn returned_void(t: &[u64; 768], w: &mut [u64; 9712], m: usize, pc: usize) -> u64
-    ensures raised { let p = program_in t.now in
-        let c = claim_in w.old in
-        let d = claim_in w.new in
-        Leaving p m (all_of (rules_of p m pc ReturnVoid)) c d }
-{
-    mark(words::join_returned(w, m, masks::one(62)), 48)
-}
+    pub fn returned_void(&self, w: &mut [u64; 9712]) -> u64
+        ensures raised { let p = program_of self.now in
+            let m = self.now.method in
+            let pc = self.now.address in
+            let c = claim_in w.old in
+            let d = claim_in w.new in
+            Leaving p m (all_of (rules_of p m pc ReturnVoid)) c d }
+    {
+        mark(join(w, Slot::Returned(self.method), Mask::of(62)), OUT)
+    }
 
-pub fn thrown(
-    t: &[u64; 768],
-    w: &mut [u64; 9712],
-    s: &[u64; 80],
-    m: usize,
-    pc: usize,
-    from: u8,
-) -> u64
-    ensures raised { let p = program_in t.now in
-        let c = claim_in w.old in
-        let d = claim_in w.new in
-        (s.now ≡ sets_of p → Leaving p m (all_of (rules_of p m pc (Throw from))) c d) }
-{
-    let mask = slots::register(w, m, pc, from as usize);
-    let throwable = mask.common(sets::below(s, 1));
-    let new = exceptions::raised(t, &mut *w, s, m, pc, throwable);
-    new | own::null_used(t, w, s, m, pc, from)
+    pub fn thrown(&self, w: &mut [u64; 9712], from: u8) -> u64
+        ensures raised { let p = program_of self.now in
+            let m = self.now.method in
+            let pc = self.now.address in
+            let c = claim_in w.old in
+            let d = claim_in w.new in
+            Leaving p m (all_of (rules_of p m pc (Throw from))) c d }
+    {
+        let (m, pc) = (self.method, self.address);
+        let mask = slots::mask(w, Slot::Register(m, pc, from as usize));
+        let throwable = mask.common(self.sets.below(1));
+        let new = exceptions::raised(self.sets, &mut *w, m, pc, throwable);
+        new | self.null_used(w, from)
+    }
 }

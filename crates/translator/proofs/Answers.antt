@@ -15,7 +15,8 @@ use Rattle.output.specs.Written.{fitting, answer_for, memory_after}
 use Rattle.output.proofs.Laws.{written_front, fitted_written}
 use Rattle.unit_machine.specs.Alike.{RunsAlike}
 use Rattle.unit_machine.proofs.Alike.{runs_alike}
-use Rattle.translator.specs.declared.Ending.TheVariants as End
+use Rattle.std.specs.Prelude.{Ok, Err}
+use Rattle.translator.specs.declared.Refusal.{Refusal}
 use Rattle.translator.specs.Translating.{with_translation, translating}
 use Rattle.translator.specs.Inside.{Walked}
 
@@ -33,26 +34,25 @@ module _ (text before : List ℕ) where
     unfolding translating translation
     by_units = rw one
 
-    stopped : (t : Translation) (number address : ℕ) → Walked t (End.Refused number address) words
-        → (Refused number address ≡ answer_for (with_translation (length before) t)) ×
+    stopped : (t : Translation) (r : Refusal) → Walked t (Err r) words
+        → (Refused r.number r.address ≡ answer_for (with_translation (length before) t)) ×
         (before ≡ memory_after (with_translation (length before) t) before)
-    stopped (refused n l) number address w = rw (w.0, w.1) (refl, refl)
-    stopped (translated is) number address w = absurd w
+    stopped (refused n l) r w = rw (w.0, w.1) (refl, refl)
+    stopped (translated is) r w = absurd w
 
-    pub refused_done : (number address : ℕ) → Walked (units_translation (units_of text)) (End.Refused number address) words
-        → Done (Refused number address) before
-    refused_done number address w = rw by_units (stopped (units_translation (units_of text)) number address w)
+    pub refused_done : (r : Refusal) → Walked (units_translation (units_of text)) (Err r) words → Done (Refused r.number r.address) before
+    refused_done r w = rw by_units (stopped (units_translation (units_of text)) r w)
 
-    pub few : (count : ℕ) (t : Translation) → Walked t (End.Words count) words → count ≤ 32
+    pub few : (count : ℕ) (t : Translation) → Walked t (Ok count) words → count ≤ 32
     few count (refused n l) w = absurd w
     few count (translated is) w = w.0
 
-    ended : (count : ℕ) (t : Translation) → Walked t (End.Words count) words
+    ended : (count : ℕ) (t : Translation) → Walked t (Ok count) words
         → with_translation (length before) t ≡ fitting (length before) (frame_lines (take count words))
     ended count (refused n l) w = absurd w
     ended count (translated is) w = ap (λ (ws : List ℕ). fitting (length before) (frame_lines ws)) (sym w.2)
 
-    pub written_done : (count : ℕ) → Walked (units_translation (units_of text)) (End.Words count) words → (r : Output) (after : List ℕ)
+    pub written_done : (count : ℕ) → Walked (units_translation (units_of text)) (Ok count) words → (r : Output) (after : List ℕ)
         → (r ≡ answer_for (fitting (length before) (frame_lines (take count words))))
         × (after ≡ memory_after (fitting (length before) (frame_lines (take count words))) before)
         → Done r after

@@ -20,14 +20,15 @@ use Rattle.units.specs.Formats.{opcode_at, target_of}
 use Rattle.units.specs.Frames.{branch_fine, branch_frame, reached, framed, fine}
 use Rattle.units.specs.Translate.{is_taken}
 use Rattle.translator.specs.declared.walk.Start.{Start}
-use Rattle.translator.specs.declared.check.Checked.TheVariants.{Word, CutShort, Unknown, Broken}
+use Rattle.std.specs.Prelude.{Ok, Err}
+use Rattle.translator.specs.declared.check.Fault.TheVariants.{CutShort, Unknown, Broken}
 use Rattle.translator.specs.Inside.{Sought, branch_target, word_by, branch_checked, checked_at}
 use Rattle.units.proofs.Texts.{unit_count}
 
-pub by_false : (t : Test) (i : Instruction) → passes t ≡ false → Broken ≡ word_by t i
+pub by_false : (t : Test) (i : Instruction) → passes t ≡ false → Err Broken ≡ word_by t i
 by_false t i e = rw e
 
-pub by_true : (t : Test) (i : Instruction) → passes t ≡ true → Word (word_of i) ≡ word_by t i
+pub by_true : (t : Test) (i : Instruction) → passes t ≡ true → Ok (word_of i) ≡ word_by t i
 by_true t i e = rw e
 
 -- ---- a branch
@@ -86,21 +87,21 @@ module _ (us : List ℕ) (at : ℕ) (b : Branch) (u v : ℕ) (first : u ≡ unit
   abbrev pub asked : Test
   asked = branch_fine (reached us (branch_target us at b)) b u v
 
-  pub branch_refused : passes asked ≡ false → Broken ≡ branch_checked us at b
+  pub branch_refused : passes asked ≡ false → Err Broken ≡ branch_checked us at b
   branch_refused e =
       by_false (branch_fine (reached us (branch_target us at b)) b (unit_at us at) (unit_at us (at + 1)))
       (branch_frame (address_in us (branch_target us at b)) b (unit_at us at)) (rw (first, second) at e)
 
   pub branch_word : passes asked ≡ true → (to : ℕ) → to ≡ address_in us (branch_target us at b) → (word : ℕ)
-      → word ≡ word_of (branch_frame to b u) → Word word ≡ branch_checked us at b
+      → word ≡ word_of (branch_frame to b u) → Ok word ≡ branch_checked us at b
   branch_word e to is word w =
-      ap Word (w ∙ rw (is, first))
+      ap Ok (w ∙ rw (is, first))
       ∙ by_true (branch_fine (reached us (branch_target us at b)) b (unit_at us at) (unit_at us (at + 1)))
       (branch_frame (address_in us (branch_target us at b)) b (unit_at us at)) (rw (first, second) at e)
 
 -- ---- an instruction
 module _ (us : List ℕ) (at k : ℕ) (l : at < length us) where
-  pub cut_short : length us - at < length_at us at → CutShort ≡ checked_at us at k
+  pub cut_short : length us - at < length_at us at → Err CutShort ≡ checked_at us at k
   cut_short h = rw (lt-leb (at + length_at us at) (length us) (omega arith))
 
   module _ (h : length_at us at ≤ length us - at) (o : Opcode) (e : o ≡ opcode_at us at) where
@@ -113,11 +114,11 @@ module _ (us : List ℕ) (at k : ℕ) (l : at < length us) where
     entire : leb (at + length_at us at) (length us) ≡ true
     entire = le-leb (at + length_at us at) (length us) (omega arith)
 
-    pub not_taken : is_taken o ≡ false → Unknown ≡ checked_at us at k
+    pub not_taken : is_taken o ≡ false → Err Unknown ≡ checked_at us at k
     not_taken t = rw (entire, ← e, t)
 
     module _ (t : is_taken o ≡ true) where
-      pub too_many : 32 ≤ k → Broken ≡ checked_at us at k
+      pub too_many : 32 ≤ k → Err Broken ≡ checked_at us at k
       too_many m = rw (entire, ← e, t, le-ltb k 32 m, and-false (passes test))
 
       pub well : k < 32 → word_by test frame ≡ checked_at us at k

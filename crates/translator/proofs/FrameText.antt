@@ -6,8 +6,10 @@ use native.Mathlib.Numerals.{add-one}
 use native.Mathlib.Omega.{arith}
 use lib.ListN.{length, get_or, take, length-append}
 use lib.Seq.{take-suc, length-take-le}
-use Rattle.page.specs.Page.{Put}
-use Rattle.page.proofs.Puts.{put_then, put_as}
+use Rattle.page.specs.declared.Page.{Page}
+use Rattle.page.specs.OnPage.{PutOn}
+use Rattle.page.proofs.Puts.{take_more}
+use Rattle.page.proofs.OnPages.{◌⨾◌, on_as}
 use Rattle.units.specs.Translate.{frame_line, frame_lines}
 
 lines_more : (xs : List ℕ) (w : ℕ) → frame_lines (xs ++ w ∷ []) ≡ frame_lines xs ++ frame_line w
@@ -23,8 +25,7 @@ lines_length (x ∷ xs) = simp length-append (rw (lines_length xs) (omega arith)
 pub first_length : (ws : List ℕ) (n : ℕ) → n ≤ length ws → length (frame_lines (take n ws)) ≡ 19 * n
 first_length ws n l = lines_length (take n ws) ∙ ap (λ (k : ℕ). 19 * k) (length-take-le n ws l)
 
-pub put_next_line : (ws : List ℕ) (i : ℕ) {out a b : List ℕ} {k j : ℕ} → i < length ws → Put out 0 (frame_lines (take i ws)) a k
-    → Put a k (frame_line (get_or ws i 0)) b j → Put out 0 (frame_lines (take (i + 1) ws)) b j
+pub put_next_line : (ws : List ℕ) (i : ℕ) {x y z : Page} → i < length ws → PutOn x (frame_lines (take i ws)) y
+    → PutOn y (frame_line (get_or ws i 0)) z → PutOn x (frame_lines (take (i + 1) ws)) z
 put_next_line ws i l p q =
-    put_as (put_then p q)
-    (sym (ap (λ (n : ℕ). frame_lines (take n ws)) (add-one i) ∙ ap frame_lines (take-suc ws i 0 l) ∙ lines_more (take i ws) (get_or ws i 0)))
+    on_as (p ⨾ q) (sym (lines_more (take i ws) (get_or ws i 0)) ∙ ap frame_lines (take_more ws i l))

@@ -1,37 +1,53 @@
 -- Starts that are known, one after another, and the search among them. Assumes nothing.
 use mathlib.Core.Path.{◌≡◌, refl, sym, ap, ◌∙◌}
-use mathlib.Core.Bool.{false}
+use mathlib.Core.Bool.{Bool, false}
 use mathlib.Core.List.{List, [], ◌∷◌, ◌++◌, append_assoc}
-use Prim.Native.Nat.{ℕ, zero, suc, ◌+◌, ◌-◌, ◌≤◌, ◌<◌}
-use native.Mathlib.Nat.{not-suc-le-zero, le_of_suc-le-suc, zero-add}
+use Prim.Native.Nat.{ℕ, suc, ◌+◌, ◌-◌, ◌≤◌, ◌<◌}
+use native.Mathlib.Nat.{not-suc-le-zero, zero-add}
 use native.Mathlib.Numerals.{add-one}
 use native.Mathlib.Omega.{arith}
 use lib.Dec.{eqb}
-use lib.ListN.{length, get_or, take, drop, set, length-set}
-use lib.Seq.{take-suc-set, drop-cons, get_or-take, length-take-le, get_or-set_same, get_or-set_other}
-use borrow.Author.Tests.{ne_eqb, eqb-true, eqb-false}
-use Rattle.text.proofs.Cases.{by_test}
+use lib.ListN.{length, get_or, take, set, length-set}
+use lib.Seq.{take-suc-set, get_or-take, length-take-le, get_or-set_same, get_or-set_other}
+use borrow.Author.Tests.{ne_eqb, eqb-true, eqb-false, ltb-true, ltb-false}
+use Rattle.std.specs.Prelude.{Some, None, nat_lt, position}
+use Rattle.std.specs.List.{position_or_len}
+use Rattle.std.proofs.lemmas.Option.{cond_some}
+use Rattle.text.proofs.Cases.{by_test, never}
 use Rattle.units.specs.Units.{length_at, starts_of, index_of, address_in}
 use Rattle.translator.specs.declared.walk.Start.{Start}
 use Rattle.translator.specs.Inside.{from, start_from, known_start, Stands, Known, Sought}
 use Rattle.translator.proofs.Walking.{start, begins, goes, goes_on_lem, arrived}
 
 -- ---- the search
--- the next of the starts that are left to look at
-pub next_known : (starts : List ℕ) (k j : ℕ) → j < k → k ≤ length starts
-    → drop j (take k starts) ≡ get_or starts j 0 ∷ drop (suc j) (take k starts)
-next_known starts k j l h =
-    drop-cons (take k starts) j 0 (rw (length-take-le k starts h) l)
-    ∙ ap (λ (x : ℕ). x ∷ drop (suc j) (take k starts)) (get_or-take k starts j 0 l)
+module _ (here : Start) (place : ℕ) where
+  abbrev pub is_there : ℕ → Bool
+  is_there s = eqb s place
 
--- none is left
-pub all_known : (starts : List ℕ) (k j : ℕ) → k ≤ j → drop j (take k starts) ≡ []
-all_known starts zero zero l = refl
-all_known [] zero (suc j) l = refl
-all_known (x ∷ starts) zero (suc j) l = refl
-all_known starts (suc k) zero l = absurd (not-suc-le-zero l)
-all_known [] (suc k) (suc j) l = refl
-all_known (x ∷ starts) (suc k) (suc j) l = all_known starts k j (le_of_suc-le-suc l)
+  first : (xs : List ℕ) (j : ℕ) → position_or_len is_there xs < length xs
+      → record { place = place; address = j + position_or_len is_there xs } ≡ start_from xs j here place
+  first [] j l = absurd (omega arith)
+  first (x ∷ xs) j l =
+      by_test (eqb x place) (λ t. rw t (ap (λ (k : ℕ). record { place = place; address = k }) (omega arith)))
+      (λ t.
+      rw t
+      (ap (λ (k : ℕ). record { place = place; address = k }) (omega arith) ∙ first xs (suc j) (let m = rw t at l in omega arith)))
+
+  nowhere : (xs : List ℕ) (j : ℕ) → length xs ≤ position_or_len is_there xs → here ≡ start_from xs j here place
+  nowhere [] j l = refl
+  nowhere (x ∷ xs) j l =
+      by_test (eqb x place) (λ t. absurd (let m = rw t at l in omega arith))
+      (λ t. rw t (nowhere xs (suc j) (let m = rw t at l in omega arith)))
+
+  pub found_start : (xs : List ℕ) (a : ℕ) → position is_there xs ≡ Some a → record { place = place; address = a } ≡ start_from xs 0 here place
+  found_start xs a e =
+      let (t, q) = cond_some (nat_lt (position_or_len is_there xs) (length xs)) (position_or_len is_there xs) a e in
+      ap (λ (k : ℕ). record { place = place; address = k }) (omega arith) ∙ first xs 0 (ltb-true (position_or_len is_there xs) (length xs) t)
+
+  pub no_start : (xs : List ℕ) → position is_there xs ≡ None → here ≡ start_from xs 0 here place
+  no_start xs e =
+      by_test (nat_lt (position_or_len is_there xs) (length xs)) (λ t. never (let f = rw t at e in cc))
+      (λ t. nowhere xs 0 (ltb-false (position_or_len is_there xs) (length xs) t))
 
 module _ (us : List ℕ) (at k place : ℕ) (stands : Stands us (start at k)) (l : place < at) where
   known_from : (xs : List ℕ) (j : ℕ) → j + length xs ≡ k → address_in us place ≡ j + index_of (xs ++ from us at) place

@@ -1,6 +1,4 @@
 -- Laws of the translator.
-mod Bools
-mod Codes
 mod Firsts
 mod OneLine
 mod UnitDigits

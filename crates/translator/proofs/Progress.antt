@@ -14,14 +14,14 @@ use Rattle.instruction.specs.declared.Instruction.{Instruction}
 use Rattle.instruction.specs.Test.{passes, under, ◌&◌, Holds}
 use Rattle.instruction.specs.Word.{pick, word_of}
 use Rattle.instruction.proofs.Laws.{holds}
-use Rattle.translator.specs.declared.check.Checked.{Checked}
-use Rattle.translator.specs.declared.check.Checked.TheVariants.{Word, CutShort, Unknown, Broken}
+use Rattle.std.specs.Prelude.{Result, Ok, Err}
+use Rattle.translator.specs.declared.check.Fault.{Fault}
+use Rattle.translator.specs.declared.check.Fault.TheVariants.{CutShort, Unknown, Broken}
 use Rattle.units.specs.Units.{length_at, starts_of}
 use Rattle.units.specs.Formats.{opcode_at}
 use Rattle.units.specs.Frames.{frame_at, fine_at}
 use Rattle.units.specs.Translate.{is_taken, Translation, refused, translated, before, translation_from, units_translation}
-use Rattle.translator.specs.declared.Ending.TheVariants.{Words, Refused}
-use Rattle.translator.specs.Inside.{from, checked_at, Walked}
+use Rattle.translator.specs.Inside.{from, checked_at, refusal_of, Walked}
 use Rattle.translator.proofs.Walking.{here, goes_on_lem, ended}
 use Rattle.units.proofs.Lengths.{taken_at}
 
@@ -47,28 +47,28 @@ map_more [] i = refl
 map_more (j ∷ is) i = ap (λ (ws : List ℕ). word_of j ∷ ws) (map_more is i)
 
 -- which of the tests failed
-abbrev told : (c t g : Bool) → ℕ → Checked
-told c t g w = pick c (pick t (pick g (Word w) Broken) Unknown) CutShort
+abbrev told : (c t g : Bool) → ℕ → Result ℕ Fault
+told c t g w = pick c (pick t (pick g (Ok w) (Err Broken)) (Err Unknown)) (Err CutShort)
 
-cut : (c t g : Bool) (w : ℕ) → told c t g w ≡ CutShort → c ≡ false
+cut : (c t g : Bool) (w : ℕ) → told c t g w ≡ Err CutShort → c ≡ false
 cut true true true w e = never (cc)
 cut true true false w e = never (cc)
 cut true false g w e = never (cc)
 cut false t g w e = refl
 
-unknown : (c t g : Bool) (w : ℕ) → told c t g w ≡ Unknown → (c ≡ true) × (t ≡ false)
+unknown : (c t g : Bool) (w : ℕ) → told c t g w ≡ Err Unknown → (c ≡ true) × (t ≡ false)
 unknown true true true w e = never (cc)
 unknown true true false w e = never (cc)
 unknown true false g w e = (refl, refl)
 unknown false t g w e = never (cc)
 
-broken : (c t g : Bool) (w : ℕ) → told c t g w ≡ Broken → (c ≡ true) × (t ≡ true) × (g ≡ false)
+broken : (c t g : Bool) (w : ℕ) → told c t g w ≡ Err Broken → (c ≡ true) × (t ≡ true) × (g ≡ false)
 broken true true true w e = never (cc)
 broken true true false w e = (refl, refl, refl)
 broken true false g w e = never (cc)
 broken false t g w e = never (cc)
 
-good : (c t g : Bool) (w x : ℕ) → told c t g w ≡ Word x → (c ≡ true) × (t ≡ true) × (g ≡ true) × (w ≡ x)
+good : (c t g : Bool) (w x : ℕ) → told c t g w ≡ Ok x → (c ≡ true) × (t ≡ true) × (g ≡ true) × (w ≡ x)
 good true true true w x e = (refl, refl, refl, cc)
 good true true false w x e = never (cc)
 good true false g w x e = never (cc)
@@ -90,7 +90,7 @@ begun us words e =
     record { place = omega arith; few = omega arith; most = omega arith; room = e; done = []; count = refl; kept = refl; rest = refl }
 
 module _ (us : List ℕ) (at k : ℕ) (words : List ℕ) (p : Progress us at k words) where
-  pub all_done : length us ≤ at → Walked (units_translation us) (Words k) words
+  pub all_done : length us ≤ at → Walked (units_translation us) (Ok k) words
   unfolding translation_from
   all_done l =
       let e : units_translation us ≡ translated p.done = p.rest ∙ rw (ended us at l) (joined_translated p.done) in
@@ -106,26 +106,33 @@ module _ (us : List ℕ) (at k : ℕ) (words : List ℕ) (p : Progress us at k w
     abbrev g : Bool
     g = passes (fine_at us at & under k 32)
 
-    stopped : (n : ℕ) → translation_from us (from us at) k ≡ refused n k → Walked (units_translation us) (Refused n k) words
+    stopped : (n : ℕ) → translation_from us (from us at) k ≡ refused n k → Walked (units_translation us) (Err (record { number = n; address = k })) words
     stopped n e = rw (p.rest ∙ ap (joined p.done) e ∙ joined_refused p.done n k) (refl, refl)
 
-    pub was_cut : checked_at us at k ≡ CutShort → Walked (units_translation us) (Refused 25 k) words
+    pub was_cut : checked_at us at k ≡ Err CutShort → Walked (units_translation us) (Err (record { number = 25; address = k })) words
     unfolding translation_from
     was_cut e = stopped 25 (rw (here us at l, cut c t g (word_of (frame_at us at)) e))
 
-    pub was_unknown : checked_at us at k ≡ Unknown → Walked (units_translation us) (Refused 26 k) words
+    pub was_unknown : checked_at us at k ≡ Err Unknown → Walked (units_translation us) (Err (record { number = 26; address = k })) words
     unfolding translation_from
     was_unknown e =
         let h = unknown c t g (word_of (frame_at us at)) e in
         stopped 26 (rw (here us at l, h.0, h.1))
 
-    pub was_broken : checked_at us at k ≡ Broken → Walked (units_translation us) (Refused 27 k) words
+    pub was_broken : checked_at us at k ≡ Err Broken → Walked (units_translation us) (Err (record { number = 27; address = k })) words
     unfolding translation_from
     was_broken e =
         let h = broken c t g (word_of (frame_at us at)) e in
         stopped 27 (rw (here us at l, h.0, h.1, h.2))
 
-    module _ (w : ℕ) (e : checked_at us at k ≡ Word w) where
+    -- the same of any of the three
+    pub was_refused : (f : Fault) → checked_at us at k ≡ Err f
+        → Walked (units_translation us) (Err (record { number = refusal_of f; address = k })) words
+    was_refused CutShort e = was_cut e
+    was_refused Unknown e = was_unknown e
+    was_refused Broken e = was_broken e
+
+    module _ (w : ℕ) (e : checked_at us at k ≡ Ok w) where
       facts : (c ≡ true) × (t ≡ true) × (g ≡ true) × (word_of (frame_at us at) ≡ w)
       facts = good c t g (word_of (frame_at us at)) w e
 

@@ -1,5 +1,5 @@
 -- What the inner functions promise one another. Definitions only, and none that a reader of the public promise has to believe.
-use Rattle.std.specs.Prelude.{◌≡◌, true, List, [], ◌∷◌, ◌++◌, map, ℕ, suc, ◌+◌, ◌*◌, ◌/◌, ◌<◌, ◌≤◌, eqb, leb, ltb, length, take, drop, get_or}
+use Rattle.std.specs.Prelude.{◌≡◌, true, List, [], ◌∷◌, ◌++◌, map, ℕ, suc, ◌+◌, ◌*◌, ◌/◌, ◌<◌, ◌≤◌, eqb, leb, ltb, length, take, drop, get_or, Result, Ok, Err}
 use Rattle.text.specs.Hex.{all_digits}
 use Rattle.instruction.specs.declared.Instruction.{Instruction}
 use Rattle.instruction.specs.Test.{Test, passes, under, ◌&◌}
@@ -11,11 +11,10 @@ use Rattle.units.specs.Units.{unit_at, length_at, starts_from, starts_of, index_
 use Rattle.units.specs.Formats.{opcode_at, target_of}
 use Rattle.units.specs.Frames.{branch_fine, branch_frame, reached, frame_at, fine_at}
 use Rattle.units.specs.Translate.{is_taken, Translation, refused, translated}
-use Rattle.translator.specs.declared.check.Checked.{Checked}
-use Rattle.translator.specs.declared.check.Checked.TheVariants.{Word, CutShort, Unknown, Broken}
+use Rattle.translator.specs.declared.check.Fault.{Fault}
+use Rattle.translator.specs.declared.check.Fault.TheVariants.{CutShort, Unknown, Broken}
 use Rattle.translator.specs.declared.walk.Start.{Start}
-use Rattle.translator.specs.declared.Ending.{Ending}
-use Rattle.translator.specs.declared.Ending.TheVariants as End
+use Rattle.translator.specs.declared.Refusal.{Refusal}
 
 -- the bytes of all units are digits
 abbrev pub Digits : List ℕ → Type 0
@@ -73,24 +72,30 @@ SoughtFor us at (branch b) r = Sought us (branch_target us at b) r
 SoughtFor us at NotTaken r = Stands us r
 
 -- the word of an instruction that passes refusal 27
-abbrev pub word_by : Test → Instruction → Checked
-word_by t i = pick (passes t) (Word (word_of i)) Broken
+abbrev pub word_by : Test → Instruction → Result ℕ Fault
+word_by t i = pick (passes t) (Ok (word_of i)) (Err Broken)
 
-abbrev pub branch_checked : List ℕ → ℕ → Branch → Checked
+abbrev pub branch_checked : List ℕ → ℕ → Branch → Result ℕ Fault
 branch_checked us at b =
     word_by (branch_fine (reached us (branch_target us at b)) b (unit_at us at) (unit_at us (at + 1)))
     (branch_frame (address_in us (branch_target us at b)) b (unit_at us at))
 
 -- the instruction at a start, with address k: refusal 25, 26 or 27, or the word of its frame
-abbrev pub checked_at : List ℕ → ℕ → ℕ → Checked
+abbrev pub checked_at : List ℕ → ℕ → ℕ → Result ℕ Fault
 checked_at us at k =
     pick (leb (at + length_at us at) (length us))
-    (pick (is_taken (opcode_at us at)) (word_by (fine_at us at & under k 32) (frame_at us at)) Unknown)
-    CutShort
+    (pick (is_taken (opcode_at us at)) (word_by (fine_at us at & under k 32) (frame_at us at)) (Err Unknown))
+    (Err CutShort)
+
+-- the number of a refusal
+abbrev pub refusal_of : Fault → ℕ
+refusal_of CutShort = 25
+refusal_of Unknown = 26
+refusal_of Broken = 27
 
 -- a walk of all instructions that ended so, and left these words
-abbrev pub Walked : Translation → Ending → List ℕ → Type 0
-Walked (refused n l) (End.Refused number address) words = (number ≡ n) × (address ≡ l)
-Walked (refused n l) (End.Words count) words = ⊥
-Walked (translated is) (End.Refused number address) words = ⊥
-Walked (translated is) (End.Words count) words = (count ≤ 32) × (count ≡ length is) × (take count words ≡ map word_of is)
+abbrev pub Walked : Translation → Result ℕ Refusal → List ℕ → Type 0
+Walked (refused n l) (Err r) words = (r.number ≡ n) × (r.address ≡ l)
+Walked (refused n l) (Ok count) words = ⊥
+Walked (translated is) (Err r) words = ⊥
+Walked (translated is) (Ok count) words = (count ≤ 32) × (count ≡ length is) × (take count words ≡ map word_of is)

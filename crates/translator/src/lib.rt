@@ -16,55 +16,56 @@ ghost use Rattle.output.specs.Numbers.{number_of, values_of};
 ghost use Rattle.output.specs.Written.{answer_for, writing_number, writing_values, memory_after};
 ghost use Rattle.unit_machine.specs.Alike.{RunsAlike};
 ghost use Rattle.translator.specs.Translating.{translating};
-ghost use Rattle.translator.specs.Inside.{Digits, Walked};
+ghost use Rattle.translator.specs.Inside.{Walked};
 
-pub use check::Checked;
+pub use check::Fault;
+use opcodes::Table;
 use output::Output;
-pub use walk::Start;
+pub use walk::{Line, Start};
 
-// How a walk of a text's instructions ended: after so many words, or with a refusal's number and address.
+// Why a text is refused, and at which address.
 #[derive(Clone, Copy)]
-pub enum Ending {
-    Words(usize),
-    Refused(usize, usize),
+pub struct Refusal {
+    pub number: usize,
+    pub address: usize,
 }
 
-// The words of a text's instructions, one after another.
-fn words_of(text: &[u8], words: &mut [u64]) -> Ending
-    requires { Digits text.now × (32 ≤ length words.old) }
-    ensures walked { Walked (units_translation (units_of text.now)) result words.new }
+// The words of a line's instructions, one after another, and how many.
+fn words_of(line: Line<'_>, words: &mut [u64]) -> Result<usize, Refusal>
+    requires { 32 ≤ length words.old }
+    ensures walked { Walked (units_translation (units_of line.entry.text.now)) result words.new }
     ensures room { 32 ≤ length words.new }
 {
-    let end = text.len() / 4;
-    let table = opcodes::table();
+    let end = line.count();
     let mut starts = [0usize; 32];
-    let mut found = Start {
+    let mut here = Start {
         place: 0,
         address: 0,
     };
-    let mut at = 0;
-    let mut k = 0;
-    while at < end {
-        let here = Start {
-            place: at,
-            address: k,
-        };
-        let n = walk::length_at(&table, text, at);
-        let o = taken::opcode_of(walk::opcode(text, at));
-        found = check::sought(&table, text, &starts, found, here, o);
-        match check::check_at(text, found, here, n, o) {
-            Checked::Word(w) => {
-                words[k] = w;
-                starts[k] = at;
-                at += n;
-                k += 1;
+    let mut found = here;
+    while here.place < end {
+        let n = line.length_at(here.place);
+        let [op, _] = line.unit(here.place).to_le_bytes();
+        let o = taken::opcode_of(op);
+        found = check::sought(line, &starts, found, here, o);
+        match check::check_at(line, found, here, n, o) {
+            Ok(w) => {
+                words[here.address] = w;
+                starts[here.address] = here.place;
+                here = Start {
+                    place: here.place + n,
+                    address: here.address + 1,
+                };
             }
-            Checked::CutShort => return Ending::Refused(25, k),
-            Checked::Unknown => return Ending::Refused(26, k),
-            Checked::Broken => return Ending::Refused(27, k),
+            Err(fault) => {
+                return Err(Refusal {
+                    number: usize::from(fault),
+                    address: here.address,
+                });
+            }
         }
     }
-    Ending::Words(k)
+    Ok(here.address)
 }
 
 // The instruction frames of a method's line of units, to the front of lent memory; nothing past them is touched. Where the text is
@@ -81,9 +82,17 @@ pub fn translate(text: &[u8], memory: &mut [u8]) -> Output
     if !walk::is_one_line(text) {
         return Output::Refused { number: 2, line: 1 };
     }
+    let table = Table::new();
+    let line = Line {
+        text,
+        table: &table,
+    };
     let mut words = [0u64; 32];
-    match words_of(text, &mut words) {
-        Ending::Refused(number, line) => Output::Refused { number, line },
-        Ending::Words(count) => put::put_frames(memory, &words, count),
+    match words_of(line, &mut words) {
+        Ok(count) => put::put_frames(memory, &words, count),
+        Err(refusal) => Output::Refused {
+            number: refusal.number,
+            line: refusal.address,
+        },
     }
 }

@@ -12,10 +12,7 @@ fn is_in_row(n: u16, c: u16, j: u16, x: u16) -> bool
     requires { (c < 16) × (j < 5) }
     ensures value { result ≡ passes (in_row n c j x) }
 {
-    if j < n {
-        return x == c + j;
-    }
-    x == 0
+    if j < n { x == c + j } else { x == 0 }
 }
 
 // The five nibbles of a call of format 35c.
@@ -24,22 +21,12 @@ fn is_five_fine(u: u16, w: u16) -> bool
 {
     let n = u / 4096 % 16;
     let c = w % 16;
-    if n > 5 {
-        return false;
-    }
-    if !is_in_row(n, c, 0, c) {
-        return false;
-    }
-    if !is_in_row(n, c, 1, w / 16 % 16) {
-        return false;
-    }
-    if !is_in_row(n, c, 2, w / 256 % 16) {
-        return false;
-    }
-    if !is_in_row(n, c, 3, w / 4096 % 16) {
-        return false;
-    }
-    is_in_row(n, c, 4, u / 256 % 16)
+    n <= 5
+        && is_in_row(n, c, 0, c)
+        && is_in_row(n, c, 1, w / 16 % 16)
+        && is_in_row(n, c, 2, w / 256 % 16)
+        && is_in_row(n, c, 3, w / 4096 % 16)
+        && is_in_row(n, c, 4, u / 256 % 16)
 }
 
 // What refusal 27 asks of an opcode without an offset.
@@ -47,65 +34,70 @@ pub fn is_plain_fine(o: Plain, u: u16, v: u16, w: u16) -> bool
     ensures value { result ≡ passes (plain_fine o u v w) }
 {
     match o {
-        Plain::Nop => u / 256 % 256 == 0,
-        Plain::Move => true,
-        Plain::MoveFrom16 => v < 256,
-        Plain::Move16 => (u / 256 % 256 == 0) & ((v < 256) & (w < 256)),
-        Plain::MoveResult => true,
-        Plain::MoveException => true,
-        Plain::ReturnVoid => u / 256 % 256 == 0,
-        Plain::Return => true,
-        Plain::Const4 => true,
-        Plain::Const16 => true,
-        Plain::Const32 => true,
-        Plain::ConstHigh16 => true,
-        Plain::CheckCast => v < 256,
-        Plain::InstanceOf => v < 256,
-        Plain::NewInstance => v < 256,
-        Plain::Throw => true,
-        Plain::Iget => v < 256,
-        Plain::Iput => v < 256,
-        Plain::Sget => v < 256,
-        Plain::Sput => v < 256,
-        Plain::InvokeVirtual => (v < 256) & is_five_fine(u, w),
-        Plain::InvokeStatic => (v < 256) & is_five_fine(u, w),
-        Plain::InvokeVirtualRange => (v < 256) & (!(0 < u / 256 % 256) | (w < 256)),
-        Plain::InvokeStaticRange => (v < 256) & (!(0 < u / 256 % 256) | (w < 256)),
-        Plain::Unop { operation: _ } => true,
-        Plain::Binop { operation: _ } => true,
-        Plain::BinopInPlace { operation: _ } => true,
+        Plain::Nop | Plain::ReturnVoid => u / 256 % 256 == 0,
+        Plain::MoveFrom16
+        | Plain::CheckCast
+        | Plain::InstanceOf
+        | Plain::NewInstance
+        | Plain::Iget
+        | Plain::Iput
+        | Plain::Sget
+        | Plain::Sput => v < 256,
+        Plain::Move16 => u / 256 % 256 == 0 && v < 256 && w < 256,
+        Plain::InvokeVirtual | Plain::InvokeStatic => v < 256 && is_five_fine(u, w),
+        Plain::InvokeVirtualRange | Plain::InvokeStaticRange => {
+            v < 256 && (u / 256 % 256 == 0 || w < 256)
+        }
+        Plain::Move
+        | Plain::MoveResult
+        | Plain::MoveException
+        | Plain::Return
+        | Plain::Const4
+        | Plain::Const16
+        | Plain::Const32
+        | Plain::ConstHigh16
+        | Plain::Throw
+        | Plain::Unop { .. }
+        | Plain::Binop { .. }
+        | Plain::BinopInPlace { .. } => true,
     }
 }
 
 // The signed number that a field of 2 half values says.
+#[tactic(auto, unfolding(units::specs::Formats::signed_by))]
 fn signed_by(half: u64, x: u64) -> i32
     requires { (half ≤ 2147483648) × (x < 2 * half) }
     ensures value { result ≡ signed_by half x }
 {
     if x < half {
-        return instruction::number(x as u32);
+        (x as u32).cast_signed()
+    } else {
+        ((x + (4294967296 - 2 * half)) as u32).cast_signed()
     }
-    instruction::number((x + (4294967296 - 2 * half)) as u32)
 }
 
 // The first register of a call of format 35c, 0 where it has no argument.
+#[tactic(auto, using(crate::proofs::Firsts::listed_none, crate::proofs::Firsts::listed_some))]
 fn first_listed(u: u16, w: u16) -> u8
     ensures value { result ≡ first_of (listed u w) }
 {
     if u / 4096 % 16 == 0 {
-        return 0;
+        0
+    } else {
+        (w % 16) as u8
     }
-    (w % 16) as u8
 }
 
 // The first register of a call of format 3rc, 0 where it has no argument.
+#[tactic(auto, using(crate::proofs::Firsts::ranged_none, crate::proofs::Firsts::ranged_some))]
 fn first_ranged(u: u16, w: u16) -> u8
     ensures value { (ltb 0 (u / 256 % 256) ≡ true → w < 256) → result ≡ first_of (ranged u w) }
 {
     if u / 256 % 256 == 0 {
-        return 0;
+        0
+    } else {
+        (w % 256) as u8
     }
-    (w % 256) as u8
 }
 
 // A value that fits a byte.

@@ -1,2 +1,2 @@
--- What the proofs of steps that leave their frame use, and the crates above.
-pub mod Keeps
+-- Passing arguments ends.
+pub mod Falls

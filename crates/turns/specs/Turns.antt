@@ -2,21 +2,19 @@
 -- stepper. Definitions only.
 use Rattle.std.specs.Prelude.{List, map, ℕ, eqb, get_or, set}
 use Rattle.instruction.specs.Word.{pick}
-use Rattle.program.specs.Tables.{program_in}
-use Rattle.machine.specs.declared.Effect.TheVariants.{Make, Call, Exit, RaiseNew}
-use Rattle.machine.specs.Decide.{virtual_call, throw}
 use Rattle.cells.specs.declared.Frame.{Frame}
 use Rattle.cells.specs.declared.Value.{Value}
-use Rattle.cells.specs.Cells.{value_of, zero_value, zero_frame}
+use Rattle.cells.specs.Cells.{zero_value, zero_frame}
 use Rattle.store.specs.Store.{absent_frame, absent_object, method_of, address_of, registers_of, class_of, with_method, with_address, with_result, with_register, with_class}
-use Rattle.site.specs.Site.{a_of, b_of, c_of}
 use Rattle.shift.specs.declared.At.{At}
 use Rattle.shift.specs.declared.Pass.{Pass}
 use Rattle.shift.specs.declared.Run.{Run}
+use Rattle.shift.specs.declared.Seen.{Seen}
 use Rattle.shift.specs.declared.Shift.{Shift}
 use Rattle.shift.specs.Places.{look_of, thrown_at}
-use Rattle.shift.specs.Shift.{shifted, unwound, returned_in, passes_of, passed_of}
-use Rattle.shift.specs.Stay.{is_leaves, is_raises, raised_class, exits_of, others_of}
+use Rattle.shift.specs.Kinds.{Shifting, make_shifting, new_shifting, static_shifting, virtual_shifting, leave_shifting, throw_shifting, unwind_shifting}
+use Rattle.shift.specs.Shift.{passes_of, passed_of}
+use Rattle.shift.specs.Stay.{is_leaves, is_raises, exits_of, others_of}
 use Rattle.drive.specs.Models.{Lent, lent, Done, done, looped}
 
 -- ---- arguments
@@ -38,10 +36,6 @@ pass_done t m p = looped (λ t q. passes_of q) pass_one t p.count m p
 
 -- ---- a step
 
--- what it comes to, of what it looks at: the top frame's method and address, the address of the frame below, a register, a class
-abbrev pub Shifting : Type 0
-Shifting = List ℕ → At → ℕ → ℕ → ℕ → Value → ℕ → Shift
-
 abbrev pub method_in : Lent → At → ℕ
 method_in m h = get_or (map method_of m.frames) (look_of h).top (look_of h).missing
 
@@ -57,8 +51,18 @@ value_in m h = get_or (registers_of (get_or m.frames (look_of h).top absent_fram
 abbrev pub class_in : Lent → At → ℕ
 class_in m h = get_or (map class_of m.objects) (thrown_at h (value_in m h)) (look_of h).class
 
+abbrev pub seen_in : Lent → At → Seen
+seen_in m h =
+    record {
+      method = method_in m h;
+      address = address_in m h;
+      below = below_in m h;
+      value = value_in m h;
+      class = class_in m h;
+    }
+
 abbrev pub shift_in : Shifting → List ℕ → Lent → At → Shift
-shift_in w t m h = w t h (method_in m h) (address_in m h) (below_in m h) (value_in m h) (class_in m h)
+shift_in w t m h = w t h (seen_in m h)
 
 -- what it writes: before arguments are passed, then they and the method
 abbrev pub popped : List Frame → Shift → List Frame
@@ -90,68 +94,23 @@ shift_done w t m h =
     done (shift_in w t m h).run
     (entered_on (pass_done t (shifted_on m (shift_in w t m h)) (shift_in w t m h).pass).memory (shift_in w t m h))
 
--- one a kind of step
-abbrev pub make_shifting : Shifting
-make_shifting t h m a b x c = shifted (program_in t) h b (Make (a_of h.word) (b_of h.word))
-
-abbrev pub new_shifting : Shifting
-new_shifting t h m a b x c = shifted (program_in t) h b (RaiseNew (raised_class h.how))
-
-abbrev pub static_shifting : Shifting
-static_shifting t h m a b x c = shifted (program_in t) h b (Call (a_of h.word) (c_of h.word))
-
-abbrev pub virtual_shifting : Shifting
-virtual_shifting t h m a b x c =
-    shifted (program_in t) h b (virtual_call (program_in t) c (a_of h.word) (b_of h.word) (c_of h.word) (value_of x))
-
-abbrev pub leave_shifting : Shifting
-leave_shifting t h m a b x c = shifted (program_in t) h b (Exit (returned_in h.opcode x))
-
-abbrev pub throw_shifting : Shifting
-throw_shifting t h m a b x c = shifted (program_in t) h b (throw (program_in t) c (value_of x))
-
-abbrev pub unwind_shifting : Shifting
-unwind_shifting t h m a b x c = unwound (program_in t) h m a c
-
-abbrev pub make_done : List ℕ → Lent → At → Done Run
-make_done = shift_done make_shifting
-
 abbrev pub new_done : List ℕ → Lent → At → Done Run
 new_done = shift_done new_shifting
-
-abbrev pub static_done : List ℕ → Lent → At → Done Run
-static_done = shift_done static_shifting
-
-abbrev pub virtual_done : List ℕ → Lent → At → Done Run
-virtual_done = shift_done virtual_shifting
-
-abbrev pub leave_done : List ℕ → Lent → At → Done Run
-leave_done = shift_done leave_shifting
-
-abbrev pub throw_done : List ℕ → Lent → At → Done Run
-throw_done = shift_done throw_shifting
 
 abbrev pub unwind_done : List ℕ → Lent → At → Done Run
 unwind_done = shift_done unwind_shifting
 
--- what a run has come to, by its kind
-abbrev pub from_throw : List ℕ → Lent → At → Done Run
-from_throw t m h = pick (eqb h.opcode 18) (throw_done t m h) (make_done t m h)
-
-abbrev pub from_exit : List ℕ → Lent → At → Done Run
-from_exit t m h = pick (exits_of h) (leave_done t m h) (from_throw t m h)
-
-abbrev pub from_virtual : List ℕ → Lent → At → Done Run
-from_virtual t m h = pick (eqb h.opcode 12) (virtual_done t m h) (from_exit t m h)
+-- ---- what a run has come to: an instruction that leaves its frame, by its opcode
 
 abbrev pub applied : List ℕ → Lent → At → Done Run
-applied t m h = pick (eqb h.opcode 13) (static_done t m h) (from_virtual t m h)
+applied t m h =
+    pick (eqb h.opcode 13) (shift_done static_shifting t m h)
+    (pick (eqb h.opcode 12) (shift_done virtual_shifting t m h)
+    (pick (exits_of h) (shift_done leave_shifting t m h)
+    (pick (eqb h.opcode 18) (shift_done throw_shifting t m h) (shift_done make_shifting t m h))))
 
-abbrev pub rest_done : List ℕ → Lent → At → Done Run
-rest_done t m h = done (others_of h) m
-
-abbrev pub from_raises : List ℕ → Lent → At → Done Run
-from_raises t m h = pick (is_raises h.how) (new_done t m h) (rest_done t m h)
-
+-- one that raises a new object, or none of these
 abbrev pub executed : List ℕ → Lent → At → Done Run
-executed t m h = pick (is_leaves h.how) (applied t m h) (from_raises t m h)
+executed t m h =
+    pick (is_leaves h.how) (applied t m h)
+    (pick (is_raises h.how) (new_done t m h) (done (others_of h) m))

@@ -1,274 +1,95 @@
-// Steps that do not stay in their frame, done in the lent slices. The functions of one kind of step differ in what it comes to
-// alone.
+// Steps that do not stay in their frame, done in the lent slices.
 #![tactic(auto)]
 
-mod dispatch; // dispatch.rt: what a run has come to, by its kind
-
 ghost use Rattle.std.specs.Prelude.{◌≡◌};
-ghost use Rattle.drive.specs.Models.{done, lent};
-ghost use Rattle.turns.specs.Turns.{pass_one, pass_done, make_done, new_done, static_done, virtual_done, leave_done, throw_done, unwind_done};
+ghost use Rattle.drive.specs.Models.{done, held, Same};
+ghost use Rattle.turns.specs.Turns.{pass_one, pass_done, seen_in, shift_done, unwind_done, executed};
 
-use cells::{Frame, Object, Value};
-pub use dispatch::execute;
-use shift::{At, Pass, Run};
+use cells::{Frame, Value};
+use drive::Lent;
+use shift::{
+    At, CallStatic, CallVirtual, Kind, Leave, Make, Pass, RaiseNew, Run, Seen, Throw, Unwind,
+};
+use site::How;
 
 // One argument is passed.
-fn pass_one(
-    t: &[u64; 768],
-    frames: &mut [Frame],
-    objects: &mut [Object],
-    statics: &mut [Value],
-    p: Pass,
-) -> Pass
-    ensures after { let before = lent frames.old objects.old statics.old in
-        let after = lent frames.new objects.new statics.new in
-        done result after ≡ pass_one t.now before p }
+fn pass_one(t: &[u64; 768], m: &mut Lent, p: Pass) -> Pass
+    ensures after { done result (held m.new) ≡ pass_one t.now (held m.old) p }
+    ensures same { Same m.old m.new }
 {
-    let none = cells::zero_value();
+    let none = Value::default();
+    let frames = &mut *m.frames;
     let x = store::register_at(frames, p.top, p.from, none);
     store::put_register(frames, p.above, p.to, x);
     shift::passed(p)
 }
 
 // All arguments are passed.
-fn pass(
-    t: &[u64; 768],
-    frames: &mut [Frame],
-    objects: &mut [Object],
-    statics: &mut [Value],
-    p: Pass,
-) -> Pass
-    ensures after { let before = lent frames.old objects.old statics.old in
-        let after = lent frames.new objects.new statics.new in
-        done result after ≡ pass_done t.now before p }
+fn pass(t: &[u64; 768], m: &mut Lent, p: Pass) -> Pass
+    ensures after { done result (held m.new) ≡ pass_done t.now (held m.old) p }
+    ensures same { Same m.old m.new }
 {
     let mut j = p;
-    while shift::passes(t, j) {
-        j = pass_one(t, frames, objects, statics, j);
+    for i in 0..p.count {
+        j = pass_one(t, m, j);
     }
     j
 }
 
-// new-instance.
-#[tactic(auto, unfolding(crate::specs::Turns::shift_done))]
-fn make(
-    t: &[u64; 768],
-    frames: &mut [Frame],
-    objects: &mut [Object],
-    statics: &mut [Value],
-    h: At,
-) -> Run
-    ensures after { let before = lent frames.old objects.old statics.old in
-        let after = lent frames.new objects.new statics.new in
-        done result after ≡ make_done t.now before h }
+// What a step looks at.
+fn seen(m: &Lent, h: At) -> Seen
+    ensures value { result ≡ seen_in (held m.now) h }
 {
     let w = shift::looked(h);
-    let m = store::method_at(frames, w.top, w.missing);
-    let a = store::address_at(frames, w.top, w.missing);
-    let b = store::address_at(frames, w.below, w.missing);
-    let x = store::register_at(frames, w.top, w.first, w.none);
-    let i = shift::thrown_at(h, x);
-    let c = store::class_at(objects, i, w.class);
-    let e = shift::make_shift(t, h, m, a, b, x, c);
-    let z = cells::zero_frame();
-    store::put_frame(frames, e.popped, z);
-    store::put_result(frames, e.resumed, e.value);
-    store::put_address(frames, e.moved, e.next);
-    store::put_class(objects, e.made, e.class);
-    store::put_register(frames, e.wrote, e.to, e.value);
-    let q = pass(t, frames, objects, statics, e.pass);
-    store::put_method(frames, e.entered, e.method);
-    e.run
+    let value = store::register_at(m.frames, w.top, w.first, w.none);
+    Seen {
+        method: store::method_at(m.frames, w.top, w.missing),
+        address: store::address_at(m.frames, w.top, w.missing),
+        below: store::address_at(m.frames, w.below, w.missing),
+        value,
+        class: store::class_at(m.objects, shift::thrown_at(h, value), w.class),
+    }
 }
 
-// An instruction that raises a new object.
+// A step of a kind. It is compiled apart for each.
 #[tactic(auto, unfolding(crate::specs::Turns::shift_done))]
-fn raise_new(
-    t: &[u64; 768],
-    frames: &mut [Frame],
-    objects: &mut [Object],
-    statics: &mut [Value],
-    h: At,
-) -> Run
-    ensures after { let before = lent frames.old objects.old statics.old in
-        let after = lent frames.new objects.new statics.new in
-        done result after ≡ new_done t.now before h }
+fn done_by<K: Kind>(t: &[u64; 768], m: &mut Lent, h: At) -> Run
+    ensures after { done result (held m.new) ≡ shift_done K.shifting t.now (held m.old) h }
+    ensures same { Same m.old m.new }
 {
-    let w = shift::looked(h);
-    let m = store::method_at(frames, w.top, w.missing);
-    let a = store::address_at(frames, w.top, w.missing);
-    let b = store::address_at(frames, w.below, w.missing);
-    let x = store::register_at(frames, w.top, w.first, w.none);
-    let i = shift::thrown_at(h, x);
-    let c = store::class_at(objects, i, w.class);
-    let e = shift::new_shift(t, h, m, a, b, x, c);
-    let z = cells::zero_frame();
-    store::put_frame(frames, e.popped, z);
-    store::put_result(frames, e.resumed, e.value);
-    store::put_address(frames, e.moved, e.next);
-    store::put_class(objects, e.made, e.class);
-    store::put_register(frames, e.wrote, e.to, e.value);
-    let q = pass(t, frames, objects, statics, e.pass);
-    store::put_method(frames, e.entered, e.method);
-    e.run
-}
-
-// invoke-static.
-#[tactic(auto, unfolding(crate::specs::Turns::shift_done))]
-fn call_static(
-    t: &[u64; 768],
-    frames: &mut [Frame],
-    objects: &mut [Object],
-    statics: &mut [Value],
-    h: At,
-) -> Run
-    ensures after { let before = lent frames.old objects.old statics.old in
-        let after = lent frames.new objects.new statics.new in
-        done result after ≡ static_done t.now before h }
-{
-    let w = shift::looked(h);
-    let m = store::method_at(frames, w.top, w.missing);
-    let a = store::address_at(frames, w.top, w.missing);
-    let b = store::address_at(frames, w.below, w.missing);
-    let x = store::register_at(frames, w.top, w.first, w.none);
-    let i = shift::thrown_at(h, x);
-    let c = store::class_at(objects, i, w.class);
-    let e = shift::static_shift(t, h, m, a, b, x, c);
-    let z = cells::zero_frame();
-    store::put_frame(frames, e.popped, z);
-    store::put_result(frames, e.resumed, e.value);
-    store::put_address(frames, e.moved, e.next);
-    store::put_class(objects, e.made, e.class);
-    store::put_register(frames, e.wrote, e.to, e.value);
-    let q = pass(t, frames, objects, statics, e.pass);
-    store::put_method(frames, e.entered, e.method);
-    e.run
-}
-
-// invoke-virtual.
-#[tactic(auto, unfolding(crate::specs::Turns::shift_done))]
-fn call_virtual(
-    t: &[u64; 768],
-    frames: &mut [Frame],
-    objects: &mut [Object],
-    statics: &mut [Value],
-    h: At,
-) -> Run
-    ensures after { let before = lent frames.old objects.old statics.old in
-        let after = lent frames.new objects.new statics.new in
-        done result after ≡ virtual_done t.now before h }
-{
-    let w = shift::looked(h);
-    let m = store::method_at(frames, w.top, w.missing);
-    let a = store::address_at(frames, w.top, w.missing);
-    let b = store::address_at(frames, w.below, w.missing);
-    let x = store::register_at(frames, w.top, w.first, w.none);
-    let i = shift::thrown_at(h, x);
-    let c = store::class_at(objects, i, w.class);
-    let e = shift::virtual_shift(t, h, m, a, b, x, c);
-    let z = cells::zero_frame();
-    store::put_frame(frames, e.popped, z);
-    store::put_result(frames, e.resumed, e.value);
-    store::put_address(frames, e.moved, e.next);
-    store::put_class(objects, e.made, e.class);
-    store::put_register(frames, e.wrote, e.to, e.value);
-    let q = pass(t, frames, objects, statics, e.pass);
-    store::put_method(frames, e.entered, e.method);
-    e.run
-}
-
-// return and return-void.
-#[tactic(auto, unfolding(crate::specs::Turns::shift_done))]
-fn leave(
-    t: &[u64; 768],
-    frames: &mut [Frame],
-    objects: &mut [Object],
-    statics: &mut [Value],
-    h: At,
-) -> Run
-    ensures after { let before = lent frames.old objects.old statics.old in
-        let after = lent frames.new objects.new statics.new in
-        done result after ≡ leave_done t.now before h }
-{
-    let w = shift::looked(h);
-    let m = store::method_at(frames, w.top, w.missing);
-    let a = store::address_at(frames, w.top, w.missing);
-    let b = store::address_at(frames, w.below, w.missing);
-    let x = store::register_at(frames, w.top, w.first, w.none);
-    let i = shift::thrown_at(h, x);
-    let c = store::class_at(objects, i, w.class);
-    let e = shift::leave_shift(t, h, m, a, b, x, c);
-    let z = cells::zero_frame();
-    store::put_frame(frames, e.popped, z);
-    store::put_result(frames, e.resumed, e.value);
-    store::put_address(frames, e.moved, e.next);
-    store::put_class(objects, e.made, e.class);
-    store::put_register(frames, e.wrote, e.to, e.value);
-    let q = pass(t, frames, objects, statics, e.pass);
-    store::put_method(frames, e.entered, e.method);
-    e.run
-}
-
-// throw.
-#[tactic(auto, unfolding(crate::specs::Turns::shift_done))]
-fn raise(
-    t: &[u64; 768],
-    frames: &mut [Frame],
-    objects: &mut [Object],
-    statics: &mut [Value],
-    h: At,
-) -> Run
-    ensures after { let before = lent frames.old objects.old statics.old in
-        let after = lent frames.new objects.new statics.new in
-        done result after ≡ throw_done t.now before h }
-{
-    let w = shift::looked(h);
-    let m = store::method_at(frames, w.top, w.missing);
-    let a = store::address_at(frames, w.top, w.missing);
-    let b = store::address_at(frames, w.below, w.missing);
-    let x = store::register_at(frames, w.top, w.first, w.none);
-    let i = shift::thrown_at(h, x);
-    let c = store::class_at(objects, i, w.class);
-    let e = shift::throw_shift(t, h, m, a, b, x, c);
-    let z = cells::zero_frame();
-    store::put_frame(frames, e.popped, z);
-    store::put_result(frames, e.resumed, e.value);
-    store::put_address(frames, e.moved, e.next);
-    store::put_class(objects, e.made, e.class);
-    store::put_register(frames, e.wrote, e.to, e.value);
-    let q = pass(t, frames, objects, statics, e.pass);
-    store::put_method(frames, e.entered, e.method);
+    let e = K::shift(t, h, seen(m, h));
+    store::put_element(m.frames, e.popped, Frame::default());
+    store::put_result(m.frames, e.resumed, e.value);
+    store::put_address(m.frames, e.moved, e.next);
+    store::put_class(m.objects, e.made, e.class);
+    store::put_register(m.frames, e.wrote, e.to, e.value);
+    let _ = pass(t, m, e.pass);
+    store::put_method(m.frames, e.entered, e.method);
     e.run
 }
 
 // A step with an object pending.
-#[tactic(auto, unfolding(crate::specs::Turns::shift_done))]
-pub fn unwind(
-    t: &[u64; 768],
-    frames: &mut [Frame],
-    objects: &mut [Object],
-    statics: &mut [Value],
-    h: At,
-) -> Run
-    ensures after { let before = lent frames.old objects.old statics.old in
-        let after = lent frames.new objects.new statics.new in
-        done result after ≡ unwind_done t.now before h }
+pub fn unwind(t: &[u64; 768], m: &mut Lent, h: At) -> Run
+    ensures after { done result (held m.new) ≡ unwind_done t.now (held m.old) h }
+    ensures same { Same m.old m.new }
 {
-    let w = shift::looked(h);
-    let m = store::method_at(frames, w.top, w.missing);
-    let a = store::address_at(frames, w.top, w.missing);
-    let b = store::address_at(frames, w.below, w.missing);
-    let x = store::register_at(frames, w.top, w.first, w.none);
-    let i = shift::thrown_at(h, x);
-    let c = store::class_at(objects, i, w.class);
-    let e = shift::unwind_shift(t, h, m, a, b, x, c);
-    let z = cells::zero_frame();
-    store::put_frame(frames, e.popped, z);
-    store::put_result(frames, e.resumed, e.value);
-    store::put_address(frames, e.moved, e.next);
-    store::put_class(objects, e.made, e.class);
-    store::put_register(frames, e.wrote, e.to, e.value);
-    let q = pass(t, frames, objects, statics, e.pass);
-    store::put_method(frames, e.entered, e.method);
-    e.run
+    done_by::<Unwind>(t, m, h)
+}
+
+// A run that has come to an instruction that does not stay in its frame, to one that raises a new object, or to neither.
+pub fn execute(t: &[u64; 768], m: &mut Lent, h: At) -> Run
+    ensures after { done result (held m.new) ≡ executed t.now (held m.old) h }
+    ensures same { Same m.old m.new }
+{
+    match h.how {
+        How::Leaves => match h.opcode {
+            13 => done_by::<CallStatic>(t, m, h),
+            12 => done_by::<CallVirtual>(t, m, h),
+            16 | 17 => done_by::<Leave>(t, m, h),
+            18 => done_by::<Throw>(t, m, h),
+            _ => done_by::<Make>(t, m, h),
+        },
+        How::Raises(_) => done_by::<RaiseNew>(t, m, h),
+        _ => shift::others(h),
+    }
 }

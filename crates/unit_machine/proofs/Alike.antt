@@ -2,11 +2,11 @@
 use mathlib.Core.Path.{◌≡◌, refl, sym, ap, ◌∙◌}
 use mathlib.Core.Bool.{Bool, true, false}
 use mathlib.Core.List.{List, [], ◌∷◌, map}
-use mathlib.Core.Option.{some}
 use Prim.Native.Nat.{ℕ}
 use native.Mathlib.Omega.{arith}
 use lib.Dec.{eqb}
 use borrow.Author.Tests.{eqb-true}
+use Rattle.std.specs.Prelude.{Some}
 use Rattle.text.proofs.Cases.{never}
 use Rattle.instruction.specs.declared.Instruction.{Instruction}
 use Rattle.instruction.specs.Word.{pick, word_of}
@@ -59,7 +59,7 @@ module _ (p : Program) (m : ℕ) (text : List ℕ) (is : List Instruction) (give
   pub also_translated : Translated p (also m (units_of text) u)
   also_translated k us e = go (eqb k m) refl e
     where
-      go : (t : Bool) → eqb k m ≡ t → pick t (some (units_of text)) (u k) ≡ some us → Told p k us
+      go : (t : Bool) → eqb k m ≡ t → pick t (Some (units_of text)) (u k) ≡ Some us → Told p k us
       go true q e = this k us (eqb-true k m q) (cc)
       go false q e = told k us e
 

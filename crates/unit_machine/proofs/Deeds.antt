@@ -1,21 +1,19 @@
 -- What the machine over units does at a place, and document 01's machine at its address: one clause an opcode. Assumes nothing.
 use mathlib.Core.Path.{◌≡◌, refl, sym, ap, ◌∙◌}
 use mathlib.Core.List.{List}
-use mathlib.Core.Option.{Option, some}
 use Prim.Native.Nat.{ℕ, zero, suc, ◌+◌, ◌<◌}
 use native.Mathlib.Nat.{add-zero}
 use native.Mathlib.Omega.{arith}
 use lib.ListN.{length, get_or}
 use lib.Seq.{get_or-take}
 use borrow.Author.Tests.{lt-ltb}
+use Rattle.std.specs.Prelude.{Option, Some, None}
 use Rattle.instruction.specs.declared.Instruction.{Instruction}
 use Rattle.instruction.specs.Test.{Holds}
 use Rattle.program.specs.Lists.{Every}
 use Rattle.program.specs.Program.{Program, arguments}
 use Rattle.program.proofs.Lists.{getD_tab}
 use Rattle.values.specs.Values.{call_test}
-use Rattle.search.specs.declared.Callee.{Callee}
-use Rattle.search.specs.declared.Callee.TheVariants.{Found, Missing}
 use Rattle.search.specs.Search.{virtual_callee}
 use Rattle.machine.specs.declared.Value.{Value}
 use Rattle.machine.specs.declared.Value.TheVariants.{Number, Reference}
@@ -67,7 +65,7 @@ ranged_row x w j l =
 
 -- ---- frame f of method units us, at place `at`
 module _ (p : Program) (u : Listing) (begin : (m : ℕ) → to_place (u m) 0 ≡ 0) (s : State) (f : Frame) (rest : List Frame)
-    (waiting : Every (Onward u) rest) (us : List ℕ) (at : ℕ) (units : u f.method ≡ some us) (at-is : place_in us f.address ≡ at)
+    (waiting : Every (Onward u) rest) (us : List ℕ) (at : ℕ) (units : u f.method ≡ Some us) (at-is : place_in us f.address ≡ at)
     (next-is : onward (u f.method) at ≡ place_in us (suc f.address)) where
   abbrev s' : State
   s' = placed_state u s
@@ -103,10 +101,10 @@ module _ (p : Program) (u : Listing) (begin : (m : ℕ) → to_place (u m) 0 ≡
 
   -- a virtual call of name n with b arguments
   module _ (n b : ℕ) (rs : List ℕ) (row : InRow rs (first_of rs) b) where
-    callee : (r : Callee) → ((m : ℕ) → r ≡ Found m → arguments p m ≡ b)
+    callee : (r : Option ℕ) → ((m : ℕ) → r ≡ Some m → arguments p m ≡ b)
         → after (calling r rs) ≡ placed_state u (apply p s f rest (call_of r (first_of rs)))
-    callee (Found m) h = entry m (first_of rs) rs (λ j l. row j (rw (h m refl) at l))
-    callee Missing h = same (Fail NoMethod) refl
+    callee (Some m) h = entry m (first_of rs) rs (λ j l. row j (rw (h m refl) at l))
+    callee None h = same (Fail NoMethod) refl
 
     virtual : (k : ℕ) (v : Value)
         → after (virtual_of p k n b rs v) ≡ placed_state u (apply p s f rest (virtual_call p k n b (first_of rs) v))

@@ -1,4 +1,5 @@
 -- Effects with their jumps led elsewhere: of all that an instruction decides only a branch has one. Assumes nothing.
+use Rattle.std.specs.Prelude.{Option, Some, None}
 use mathlib.Core.Path.{◌≡◌, refl}
 use mathlib.Core.Bool.{Bool, true, false}
 use Prim.Native.Nat.{ℕ}
@@ -9,8 +10,6 @@ use Rattle.instruction.specs.declared.Condition.TheVariants.{Eq, Ne, Lt, Ge, Gt,
 use Rattle.instruction.specs.declared.Operation.{Operation}
 use Rattle.instruction.specs.declared.Unary.{Unary}
 use Rattle.instruction.specs.Word.{pick}
-use Rattle.arithmetic.specs.declared.Computed.{Computed}
-use Rattle.arithmetic.specs.declared.Computed.TheVariants.{Number as Result, ByZero}
 use Rattle.arithmetic.specs.Arithmetic.{is_zero, computed, in_order}
 use Rattle.program.specs.Program.{Program, throwable_class}
 use Rattle.search.specs.Search.{below, has_field}
@@ -61,9 +60,9 @@ module _ (g : ℕ → ℕ) where
   pub not_object_lem : (z : ℤ) → not_object z ≡ jumped g (not_object z)
   not_object_lem z = either (is_zero z) _ _ _ _ refl refl
 
-  computed_into_lem : (a : ℕ) (r : Computed) → computed_into a r ≡ jumped g (computed_into a r)
-  computed_into_lem a (Result z) = refl
-  computed_into_lem a ByZero = refl
+  computed_into_lem : (a : ℕ) (r : Option ℤ) → computed_into a r ≡ jumped g (computed_into a r)
+  computed_into_lem a (Some z) = refl
+  computed_into_lem a None = refl
 
   pub binop_jumped : (a : ℕ) (o : Operation) (v w : Value) → binop a o v w ≡ jumped g (binop a o v w)
   binop_jumped a o (Number x) (Number y) = computed_into_lem a (computed o x y)

@@ -1,13 +1,13 @@
 -- A method that is translated from units: its instructions, its places and its addresses. Assumes nothing.
 use mathlib.Core.Path.{◌≡◌, refl, sym, ap, ◌∙◌}
 use mathlib.Core.List.{List, [], ◌∷◌, map}
-use mathlib.Core.Option.{Option, none, some}
 use Prim.Native.Nat.{ℕ, zero, suc, ◌+◌, ◌<◌, ◌≤◌}
 use native.Mathlib.Nat.{not-suc-le-zero, le_of_suc-le-suc}
 use native.Mathlib.Omega.{arith}
 use lib.Dec.{ltb}
 use lib.ListN.{length, get_or}
 use borrow.Author.Tests.{ltb-true, ltb-false, lt-ltb, le-ltb}
+use Rattle.std.specs.Prelude.{Option, Some, None}
 use Rattle.text.proofs.Cases.{by_test}
 use Rattle.instruction.specs.declared.Instruction.{Instruction}
 use Rattle.instruction.specs.declared.Instruction.TheVariants.{Nop}
@@ -83,8 +83,8 @@ pub begin : (u : Listing) (m : ℕ) → to_place (u m) 0 ≡ 0
 begin u m = go (u m)
   where
     go : (o : Option (List ℕ)) → to_place o 0 ≡ 0
-    go none = refl
-    go (some us) = place_start us
+    go None = refl
+    go (Some us) = place_start us
 
 module _ (p : Program) (u : Listing) (told : Translated p u) (m a : ℕ) where
   -- the place after the instruction is that of the next address
@@ -92,21 +92,21 @@ module _ (p : Program) (u : Listing) (told : Translated p u) (m a : ℕ) where
   onward_next l = go (u m) refl
     where
       go : (o : Option (List ℕ)) → u m ≡ o → onward o (to_place o a) ≡ to_place o (suc a)
-      go none e = refl
-      go (some us) e = next p m us (told m us e) a l
+      go None e = refl
+      go (Some us) e = next p m us (told m us e) a l
 
   -- a place is inside the method where its address is
   pub inside_alike : ltb (to_place (u m) a) (end_of p m (u m)) ≡ ltb a (code_length p m)
   inside_alike = go (u m) refl
     where
       go : (o : Option (List ℕ)) → u m ≡ o → ltb (to_place o a) (end_of p m o) ≡ ltb a (code_length p m)
-      go none e = refl
-      go (some us) e = inside p m us (told m us e) a
+      go None e = refl
+      go (Some us) e = inside p m us (told m us e) a
 
   -- an address of the method, or its end, is read from its place
   pub read_from : a ≤ code_length p m → to_address (u m) (to_place (u m) a) ≡ a
   read_from l = go (u m) refl
     where
       go : (o : Option (List ℕ)) → u m ≡ o → to_address o (to_place o a) ≡ a
-      go none e = refl
-      go (some us) e = address_back us a (rw (count p m us (told m us e)) at l)
+      go None e = refl
+      go (Some us) e = address_back us a (rw (count p m us (told m us e)) at l)

@@ -1,11 +1,11 @@
 -- The run over units and the run of the frames, step by step: each frame stands at the place of its address. Assumes nothing.
 use mathlib.Core.Path.{◌≡◌, refl, sym, ap, ◌∙◌}
 use mathlib.Core.List.{List, [], ◌∷◌}
-use mathlib.Core.Option.{Option, none, some}
 use Prim.Native.Nat.{ℕ, zero, suc, ◌+◌}
 use native.Mathlib.Omega.{arith}
 use lib.Dec.{ltb}
 use borrow.Author.Tests.{ltb-true}
+use Rattle.std.specs.Prelude.{Option, Some, None}
 use Rattle.text.proofs.Cases.{by_test}
 use Rattle.instruction.specs.declared.Instruction.{Instruction}
 use Rattle.instruction.specs.declared.Instruction.TheVariants.{Nop, Move, Const, Goto, If, IfZero, Binop, Unop, NewInstance, Iget}
@@ -17,8 +17,6 @@ use Rattle.program.specs.Lists.{Every}
 use Rattle.program.specs.Program.{Program, code_length, instruction_at}
 use Rattle.program.proofs.Every.{every_map}
 use Rattle.values.specs.Values.{call_test}
-use Rattle.search.specs.declared.Handling.{Handling}
-use Rattle.search.specs.declared.Handling.TheVariants.{Caught, Uncaught}
 use Rattle.search.specs.Search.{handler_for}
 use Rattle.reader.specs.Formed.{Formed}
 use Rattle.machine.specs.declared.Effect.{Effect}
@@ -81,7 +79,7 @@ module _ (p : Program) (formed : Formed p) (u : Listing) (told : Translated p u)
     did : (o : Option (List ℕ)) (at : ℕ) → u m ≡ o → to_place o a ≡ at
         → carried p u s' (moved f at) (placed_frames u rest) (deed_at p s' (moved f at) o)
         ≡ placed_state u (apply p s f rest (effect_at p s f))
-    did none at e q =
+    did None at e q =
         let here : to_place (u m) a ≡ at = ap (λ (o : Option (List ℕ)). to_place o a) e ∙ q in
         let next : to_place (u m) (suc a) ≡ onward (u m) at = sym (onward_next p u told m a l) ∙ ap (onward (u m)) here in
         let same : decide p s' (moved f at) (instruction_at p m at) ≡ jumped (λ d. d) (effect_at p s f) =
@@ -90,7 +88,7 @@ module _ (p : Program) (formed : Formed p) (u : Listing) (told : Translated p u)
         ap (λ (y : Effect). carried p u s' (moved f at) (placed_frames u rest) (does y)) same
         ∙ applied p u (begin u) s f rest waiting at (onward (u m) at) (λ d. d) here next
         (λ d. ap (λ (o : Option (List ℕ)). to_place o d) e) (effect_at p s f)
-    did (some us) at e q =
+    did (Some us) at e q =
         let t = taken p m us (told m us e) a l in
         let here : to_place (u m) a ≡ at = ap (λ (o : Option (List ℕ)). to_place o a) e ∙ q in
         let next : onward (u m) at ≡ place_in us (suc a) =
@@ -109,10 +107,10 @@ module _ (p : Program) (formed : Formed p) (u : Listing) (told : Translated p u)
     dropped_alike o [] = refl
     dropped_alike o (g ∷ rest) = refl
 
-    unwound_alike : (o : ℕ) (h : Handling)
+    unwound_alike : (o : ℕ) (h : Option ℕ)
         → unit_unwound p u s' (placed_frame u f) (placed_frames u rest) o h ≡ placed_state u (unwound p s f rest o h)
-    unwound_alike o (Caught h) = refl
-    unwound_alike o Uncaught = dropped_alike o rest
+    unwound_alike o (Some h) = refl
+    unwound_alike o None = dropped_alike o rest
 
     handled : (o : ℕ)
         → unit_unwound p u s' (placed_frame u f) (placed_frames u rest) o

@@ -3,10 +3,9 @@ use mathlib.Core.Path.{◌≡◌, refl}
 use mathlib.Core.List.{List, [], ◌∷◌}
 use Prim.Native.Nat.{ℕ, zero, suc, ◌<◌, ◌≤◌}
 use native.Mathlib.Omega.{arith}
+use Rattle.std.specs.Prelude.{Option, Some, None}
 use Rattle.program.specs.Lists.{Every}
 use Rattle.program.specs.Program.{Program, code_length, handler_target}
-use Rattle.search.specs.declared.Handling.{Handling}
-use Rattle.search.specs.declared.Handling.TheVariants.{Caught, Uncaught}
 use Rattle.search.specs.Search.{handler_for}
 use Rattle.search.proofs.Searches.{handler_highest}
 use Rattle.reader.specs.Formed.{Formed}
@@ -57,14 +56,14 @@ module _ (p : Program) (formed : Formed p) (s : State) (shaped : Shaped p s) (st
     dropped_stands o [] w = tt
     dropped_stands o (g ∷ rest) w = let i = w.0 in (omega arith, w.1)
 
-    unwound_stands : (o c : ℕ) (h : Handling) → handler_for p f.method f.address c ≡ h
+    unwound_stands : (o c : ℕ) (h : Option ℕ) → handler_for p f.method f.address c ≡ h
         → Standing p (unwound p s f rest o h).frames
-    unwound_stands o c (Caught h) e =
+    unwound_stands o c (Some h) e =
         let exists = (handler_highest p f.method f.address c h e).within in
         let t : handler_target p f.method h < code_length p f.method =
         (formed.methods f.method (method_exists p f.method f.address l)).target h exists in
         (omega arith, callers)
-    unwound_stands o c Uncaught e = dropped_stands o rest callers
+    unwound_stands o c None e = dropped_stands o rest callers
 
   stands_by : (t : State) → Stepped p s t → Standing p t.frames
   stands_by t (runs f rest h e) =

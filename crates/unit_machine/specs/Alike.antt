@@ -1,6 +1,5 @@
 -- What the translation promises of the two machines: they are in the same state after every number of steps. Definitions only.
-use Rattle.std.specs.Prelude.{◌≡◌, List, [], ◌∷◌, map, ℕ, eqb}
-use Rattle.std.proofs.Math.Option.{none, some}
+use Rattle.std.specs.Prelude.{◌≡◌, List, [], ◌∷◌, map, ℕ, eqb, Some, None}
 use Rattle.instruction.specs.declared.Instruction.{Instruction}
 use Rattle.instruction.specs.Word.{pick, word_of}
 use Rattle.program.specs.Program.{Program, method_at}
@@ -21,7 +20,7 @@ pub record Told (p : Program) (m : ℕ) (us : List ℕ) : Type 0 where
 
 -- every method that has units is translated from them
 abbrev pub Translated : Program → Listing → Type 0
-Translated p u = (m : ℕ) (us : List ℕ) → u m ≡ some us → Told p m us
+Translated p u = (m : ℕ) (us : List ℕ) → u m ≡ Some us → Told p m us
 
 -- "unit places read as addresses": of a frame, of frames, of a state
 abbrev pub read_frame : Listing → Frame → Frame
@@ -57,10 +56,10 @@ pub record Alike (p : Program) (u : Listing) (n : ℕ) : Type 0 where
 
 -- no method has units; method m has these, and the others what they had
 abbrev pub no_units : Listing
-no_units k = none
+no_units k = None
 
 abbrev pub also : ℕ → List ℕ → Listing → Listing
-also m us u k = pick (eqb k m) (some us) (u k)
+also m us u k = pick (eqb k m) (Some us) (u k)
 
 -- "In a program the reader takes, a translated method, run by a machine over units, is after every number of steps in the state its
 -- frames are in, unit places read as addresses": of a text of units and a text of frames. Any methods besides may be units

@@ -1,9 +1,7 @@
 -- What an instruction of units does at a frame, from the bits of its units u, v and w alone: one clause an opcode, and no instruction
 -- frame in between. With document 01's machine it shares what an operation means. Definitions only.
-use Rattle.std.specs.Prelude.{List, ℕ, ◌*◌}
+use Rattle.std.specs.Prelude.{List, ℕ, ◌*◌, Option, Some, None}
 use Rattle.program.specs.Program.{Program}
-use Rattle.search.specs.declared.Callee.{Callee}
-use Rattle.search.specs.declared.Callee.TheVariants.{Found, Missing}
 use Rattle.search.specs.Search.{virtual_callee}
 use Rattle.machine.specs.declared.Value.{Value}
 use Rattle.machine.specs.declared.Value.TheVariants.{Number, Reference}
@@ -31,9 +29,9 @@ pub data Deed : Type 0 where
   enters : (method : ℕ) → (from : List ℕ) → Deed
 
 -- "Virtual calls look for name, argument count and kind 0 in the receiver's class, then upward"; "6 no method"
-abbrev pub calling : Callee → List ℕ → Deed
-calling (Found m) rs = enters m rs
-calling Missing rs = does (Fail NoMethod)
+abbrev pub calling : Option ℕ → List ℕ → Deed
+calling (Some m) rs = enters m rs
+calling None rs = does (Fail NoMethod)
 
 -- "Indexes are taken as my numbers, a virtual call's as the name": name n, count arguments in registers rs; the receiver v is an
 -- object of class k

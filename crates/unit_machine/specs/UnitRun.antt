@@ -1,13 +1,10 @@
 -- The machine over units, and its run. A frame stands at a unit place where one of document 01's machine stands at an address. Of a
 -- method that has units it looks at these alone, and never at its instruction frames; methods without units, classes, fields,
 -- statics and handlers are the program's. Definitions only.
-use Rattle.std.specs.Prelude.{List, [], ◌∷◌, ◌++◌, ℕ, zero, suc, ◌+◌, ◌-◌, ltb, length, get_or, set}
-use Rattle.std.proofs.Math.Option.{Option, none, some}
+use Rattle.std.specs.Prelude.{List, [], ◌∷◌, ◌++◌, ℕ, zero, suc, ◌+◌, ◌-◌, ltb, length, get_or, set, Option, Some, None}
 use Rattle.instruction.specs.Word.{pick}
 use Rattle.program.specs.Lists.{tab}
 use Rattle.program.specs.Program.{Program, registers, arguments, code_length, instruction_at, handler_target}
-use Rattle.search.specs.declared.Handling.{Handling}
-use Rattle.search.specs.declared.Handling.TheVariants.{Caught, Uncaught}
 use Rattle.search.specs.Search.{handler_for}
 use Rattle.machine.specs.declared.Value.{Value}
 use Rattle.machine.specs.declared.Value.TheVariants.{Reference}
@@ -28,28 +25,28 @@ Listing = ℕ → Option (List ℕ)
 
 -- what the instruction at a frame's place does; without units, the one at its address
 abbrev pub deed_at : Program → State → Frame → Option (List ℕ) → Deed
-deed_at p s f none = does (decide p s f (instruction_at p f.method f.address))
-deed_at p s f (some us) =
+deed_at p s f None = does (decide p s f (instruction_at p f.method f.address))
+deed_at p s f (Some us) =
     deed p s f (length us) (opcode_at us f.address) (unit_at us f.address) (unit_at us (f.address + 1)) (unit_at us (f.address + 2))
 
 -- "then goes one on": to the next address; of units, to the place after the instruction, which has "a length of 0 to 5 units"
 abbrev pub onward : Option (List ℕ) → ℕ → ℕ
-onward none at = suc at
-onward (some us) at = at + length_at us at
+onward None at = suc at
+onward (Some us) at = at + length_at us at
 
 -- the place past a method's last
 abbrev pub end_of : Program → ℕ → Option (List ℕ) → ℕ
-end_of p m none = code_length p m
-end_of p m (some us) = length us
+end_of p m None = code_length p m
+end_of p m (Some us) = length us
 
 -- "unit places read as addresses"; and the place of an address. Handlers are in addresses
 abbrev pub to_address : Option (List ℕ) → ℕ → ℕ
-to_address none at = at
-to_address (some us) at = address_in us at
+to_address None at = at
+to_address (Some us) at = address_in us at
 
 abbrev pub to_place : Option (List ℕ) → ℕ → ℕ
-to_place none a = a
-to_place (some us) a = place_in us a
+to_place None a = a
+to_place (Some us) a = place_in us a
 
 -- the frame at another place, with a register written
 abbrev pub unit_wrote : Frame → ℕ → ℕ → Value → Frame
@@ -119,10 +116,10 @@ carried p u s f rest (does e) = unit_apply p u s f rest (onward (u f.method) f.a
 carried p u s f rest (enters m rs) = with_frames s (entered_from p m rs f ∷ f ∷ rest)
 
 -- "A step with one pending takes the top frame's handler at its address (the object becomes the result) or drops the frame"
-abbrev pub unit_unwound : Program → Listing → State → Frame → List Frame → ℕ → Handling → State
-unit_unwound p u s f rest o (Caught h) =
+abbrev pub unit_unwound : Program → Listing → State → Frame → List Frame → ℕ → Option ℕ → State
+unit_unwound p u s f rest o (Some h) =
     with_frames s (resumed f (to_place (u f.method) (handler_target p f.method h)) (Reference o) ∷ rest)
-unit_unwound p u s f rest o Uncaught = dropped s o rest
+unit_unwound p u s f rest o None = dropped s o rest
 
 -- a step by status and top frame. "after an end the state stays as the end left it"; at a place outside its method the state
 -- stays too

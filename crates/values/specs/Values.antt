@@ -1,7 +1,6 @@
 -- Field values: refusal 5, "a field value not allowed above", and refusal 6, "last instruction falls through". Definitions
 -- only.
-use Rattle.std.specs.Prelude.{Bool, true, false, ◌&&◌, ℕ, ◌+◌, eqb, leb}
-use Rattle.std.proofs.Math.Option.{Option, none, some}
+use Rattle.std.specs.Prelude.{Bool, true, false, ◌&&◌, ℕ, ◌+◌, eqb, leb, Option, Some, None}
 use Rattle.operands.specs.declared.Limits.{Limits}
 use Rattle.instruction.specs.declared.Instruction.{Instruction}
 use Rattle.instruction.specs.declared.Instruction.TheVariants.{Nop, Move, Const, Goto, If, IfZero, Binop, Unop, NewInstance, Iget, Iput, Sget, Sput, InvokeVirtual, InvokeStatic, MoveResult, MoveException, Return, ReturnVoid, Throw, InstanceOf, CheckCast}
@@ -45,8 +44,8 @@ unfoldable pub alike : Program → ℕ → ℕ → Bool
 alike p m k = eqb (method_class p k) (method_class p m) && eqb (method_name p k) (method_name p m)
 
 abbrev pub some? : Option ℕ → Bool
-some? none = false
-some? (some k) = true
+some? None = false
+some? (Some k) = true
 
 -- "No two share class and name", "class and name repeated: the later line"
 unfoldable pub repeated : Program → ℕ → Bool

@@ -10,7 +10,7 @@ ghost use Rattle.values.specs.Values.{built_in, super_test, class_test, field_te
 ghost use Rattle.values.specs.Values.{static_test, call_test, instruction_test, last_test, range_test, handler_test, instruction_mark};
 
 use instruction::Instruction;
-use operands::{Limits, both, implies};
+use operands::Limits;
 
 // A line's mark, by whether its values are allowed.
 pub fn value_mark(fits: bool) -> usize
@@ -23,14 +23,14 @@ pub fn value_mark(fits: bool) -> usize
 fn built_in(c: usize) -> bool
     ensures value { result ≡ built_in c }
 {
-    both(2 <= c, c <= 4)
+    2 <= c && c <= 4
 }
 
 // The superclass of a class that is not class 0.
 fn below_fits(c: usize, s: usize) -> bool
     ensures value { result ≡ ltb s c && (not (built_in c) || eqb s throwable_class) }
 {
-    both(s < c, implies(built_in(c), s == 1))
+    s < c && (!built_in(c) || s == 1)
 }
 
 fn super_fits(c: usize, s: usize) -> bool
@@ -55,42 +55,32 @@ pub fn field_fits(t: &[u64; 768], f: usize) -> bool
 fn header_fits(classes: usize, m: usize, class: usize, kind: usize, r: usize, a: usize) -> bool
     ensures value { result ≡ passes (header_test classes m class kind r a) }
 {
-    let shape = both(
-        0 < r,
-        both(
-            r <= 16,
-            both(
-                a <= r,
-                both(
-                    implies(kind == 0, 0 < a),
-                    implies(m == 0, both(kind == 1, a == 0)),
-                ),
-            ),
-        ),
-    );
-    both(class < classes, both(kind < 2, shape))
+    class < classes
+        && kind < 2
+        && 0 < r
+        && r <= 16
+        && a <= r
+        && (kind != 0 || 0 < a)
+        && (m != 0 || kind == 1 && a == 0)
 }
 
 // Whether methods k and m share class and name.
+#[tactic(auto, unfolding(crate::specs::Values::alike))]
 fn alike(t: &[u64; 768], m: usize, k: usize) -> bool
     ensures value { result ≡ alike (program_in t.now) m k }
 {
-    both(
-        program::method_class(t, k) == program::method_class(t, m),
-        program::method_name(t, k) == program::method_name(t, m),
-    )
+    program::method_class(t, k) == program::method_class(t, m)
+        && program::method_name(t, k) == program::method_name(t, m)
 }
 
 // Whether an earlier method has the class and name of method m.
 fn repeated(t: &[u64; 768], m: usize) -> bool
     ensures value { result ≡ repeated (program_in t.now) m }
 {
-    let mut k: usize = 0;
-    while k < m {
+    for k in 0..m {
         if alike(t, m, k) {
             return true;
         }
-        k += 1;
     }
     false
 }
@@ -106,7 +96,7 @@ pub fn method_fits(t: &[u64; 768], m: usize) -> bool
         program::registers(t, m),
         program::arguments(t, m),
     );
-    both(fits, !repeated(t, m))
+    fits && !repeated(t, m)
 }
 
 // What an instruction of method m can name.
@@ -137,10 +127,7 @@ fn call_fits(t: &[u64; 768], i: Instruction) -> bool
     };
     let m = method as usize;
     let b = count as usize;
-    both(
-        program::method_kind(t, m) == 1,
-        both(program::arguments(t, m) == b, implies(b == 0, first == 0)),
-    )
+    program::method_kind(t, m) == 1 && program::arguments(t, m) == b && (b != 0 || first == 0)
 }
 
 fn instruction_fits(t: &[u64; 768], m: usize, pc: usize) -> bool
@@ -148,10 +135,7 @@ fn instruction_fits(t: &[u64; 768], m: usize, pc: usize) -> bool
 {
     let w = program::code_word(t, m, pc) as u64;
     let i = instruction::decode(w);
-    if instruction::encode(i) != w {
-        return false;
-    }
-    both(operands::names_fit(limits_of(t, m), i), call_fits(t, i))
+    instruction::encode(i) == w && operands::names_fit(limits_of(t, m), i) && call_fits(t, i)
 }
 
 // Whether an instruction is its method's last and falls through.
@@ -159,16 +143,10 @@ fn ends_badly(t: &[u64; 768], m: usize, pc: usize) -> bool
     ensures value { not result ≡ passes (last_test (program_in t.now) m pc) }
 {
     let n = program::code_length(t, m);
-    if pc < n {
-        both(
-            pc + 1 == n,
-            operands::falls_through(program::instruction_at(t, m, pc)),
-        )
-    } else {
-        false
-    }
+    pc < n && pc + 1 == n && operands::falls_through(program::instruction_at(t, m, pc))
 }
 
+#[tactic(auto, unfolding(crate::specs::Values::instruction_mark))]
 pub fn instruction_mark(t: &[u64; 768], m: usize, pc: usize) -> usize
     ensures value { result ≡ instruction_mark (program_in t.now) m pc }
 {
@@ -185,7 +163,7 @@ pub fn instruction_mark(t: &[u64; 768], m: usize, pc: usize) -> usize
 fn range_fits(length: usize, classes: usize, f: usize, t: usize, g: usize, c: usize) -> bool
     ensures value { result ≡ passes (range_test length classes f t g c) }
 {
-    both(f < t, both(t <= length, both(g < length, c < classes)))
+    f < t && t <= length && g < length && c < classes
 }
 
 pub fn handler_fits(t: &[u64; 768], m: usize, h: usize) -> bool

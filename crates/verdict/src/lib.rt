@@ -14,6 +14,7 @@ pub enum Verdict {
         address: usize,
     },
     // A refusal of the program's text or the claim's, with its line.
+    // Stays: clause `verdict` of `checker::check` gives C this number, by `answer_for`, and it is printed.
     Refused {
         number: usize,
         line: usize,

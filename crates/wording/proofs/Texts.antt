@@ -1,11 +1,14 @@
 -- A claim's text, put frame after frame. Assumes nothing.
 use mathlib.Core.Path.{◌≡◌, refl, sym, ap, ◌∙◌}
 use mathlib.Core.List.{List, [], ◌∷◌, ◌++◌, append_assoc, append-nil}
-use Prim.Native.Nat.{ℕ, zero, suc, ◌+◌}
+use Prim.Native.Nat.{ℕ, zero, suc, ◌+◌, ◌<◌}
 use native.Mathlib.Numerals.{add-one}
+use lib.ListN.{length, take, get_or}
 use Rattle.page.specs.Digits.{two, sixteen}
-use Rattle.page.specs.Page.{Put}
-use Rattle.page.proofs.Puts.{put_then, put_as}
+use Rattle.page.specs.declared.Page.{Page}
+use Rattle.page.specs.OnPage.{PutOn}
+use Rattle.page.proofs.Puts.{take_more}
+use Rattle.page.proofs.OnPages.{◌⨾◌, on_as}
 use Rattle.program.specs.Lists.{tab, joined}
 use Rattle.program.specs.Program.{Program, registers}
 use Rattle.program.proofs.Joined.{joined_more}
@@ -13,8 +16,20 @@ use Rattle.flow.specs.Claim.{Slot, register_at, result_at, Claim}
 use Rattle.claim.specs.declared.Part.TheVariants.{Address, Field, Static, Returned, Leaving}
 use Rattle.claim.specs.declared.Part.{Part}
 use Rattle.claim.specs.Frames.{Due, outer, frame_at, part_due, frames_due}
-use Rattle.wording.specs.ClaimText.{masks_text, frame_text, frames_text, claim_text}
+use Rattle.wording.specs.ClaimText.{numbers_text, masks_text, frame_text, frames_text, claim_text}
 use Rattle.wording.specs.Inside.{row_due}
+
+-- ---- one number more
+numbers_append : (xs ys : List ℕ) → numbers_text (xs ++ ys) ≡ numbers_text xs ++ numbers_text ys
+numbers_append [] ys = refl
+numbers_append (n ∷ ns) ys = ap (λ (t : List ℕ). two n ++ t) (numbers_append ns ys)
+
+pub number_more : (ns : List ℕ) (i : ℕ) {x y z : Page} → i < length ns
+    → PutOn x (numbers_text (take i ns)) y
+    → PutOn y (two (get_or ns i 0)) z
+    → PutOn x (numbers_text (take (i + 1) ns)) z
+number_more ns i h p q =
+    on_as (p ⨾ q) (sym (numbers_append (take i ns) (get_or ns i 0 ∷ [])) ∙ ap numbers_text (take_more ns i h))
 
 -- ---- one more at the end
 tab_more : (n : ℕ) (f : ℕ → Slot) → tab (suc n) f ≡ tab n f ++ (f n ∷ [])
@@ -33,21 +48,21 @@ module _ (c : Claim) where
       ap (λ (t : List ℕ). sixteen (c x).bits ++ t) (masks_append xs ys)
       ∙ sym (append_assoc (sixteen (c x).bits) (masks_text c xs) (masks_text c ys))
 
-  pub frames_more : (f : ℕ → List Due) (n : ℕ) {out : List ℕ} {at : ℕ} {a : List ℕ} {i : ℕ} {b : List ℕ} {j : ℕ}
-      → Put out at (frames_text c (joined n f)) a i
-      → Put a i (frames_text c (f n)) b j
-      → Put out at (frames_text c (joined (n + 1) f)) b j
+  pub frames_more : (f : ℕ → List Due) (n : ℕ) {x y z : Page}
+      → PutOn x (frames_text c (joined n f)) y
+      → PutOn y (frames_text c (f n)) z
+      → PutOn x (frames_text c (joined (n + 1) f)) z
   frames_more f n p q =
       rw (add-one n)
-      (put_as (put_then p q) (sym (ap (frames_text c) (joined_more n f) ∙ frames_append (joined n f) (f n))))
+      (on_as (p ⨾ q) (sym (ap (frames_text c) (joined_more n f) ∙ frames_append (joined n f) (f n))))
 
-  pub masks_more : (f : ℕ → Slot) (n : ℕ) {out : List ℕ} {at : ℕ} {a : List ℕ} {i : ℕ} {b : List ℕ} {j : ℕ}
-      → Put out at (masks_text c (tab n f)) a i
-      → Put a i (sixteen (c (f n)).bits) b j
-      → Put out at (masks_text c (tab (n + 1) f)) b j
+  pub masks_more : (f : ℕ → Slot) (n : ℕ) {x y z : Page}
+      → PutOn x (masks_text c (tab n f)) y
+      → PutOn y (sixteen (c (f n)).bits) z
+      → PutOn x (masks_text c (tab (n + 1) f)) z
   masks_more f n p q =
       rw (add-one n)
-      (put_as (put_then p q) (sym (ap (masks_text c) (tab_more n f) ∙ masks_append (tab n f) (f n ∷ []))))
+      (on_as (p ⨾ q) (sym (ap (masks_text c) (tab_more n f) ∙ masks_append (tab n f) (f n ∷ []))))
 
   -- ---- the frame of an address
   pub address_line : (p : Program) (m pc : ℕ)

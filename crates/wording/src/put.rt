@@ -1,8 +1,7 @@
-// The text of the claim that stands in words, put into a buffer. Every function takes any place of any buffer, puts what goes in, and
-// answers the next place.
-ghost use Rattle.std.specs.Prelude.{◌≡◌};
+// The text of the claim that stands in words, put on a page.
+ghost use Rattle.std.specs.Prelude.{◌≡◌, ◌<◌, ◌^◌, ℕ, get_or};
 ghost use Rattle.page.specs.Digits.{sixteen};
-ghost use Rattle.page.specs.Packed.{digits_in};
+ghost use Rattle.page.specs.OnPage.{PutOn};
 ghost use Rattle.page.specs.Page.{Put};
 ghost use Rattle.program.specs.Program.{registers};
 ghost use Rattle.program.specs.Lists.{tab};
@@ -11,183 +10,138 @@ ghost use Rattle.flow.specs.Claim.{register_at};
 ghost use Rattle.slots.specs.Layout.{claim_in};
 ghost use Rattle.claim.specs.Frames.{frame_at, part_due};
 ghost use Rattle.claim.specs.declared.Part.TheVariants.{Address, Field};
-ghost use Rattle.wording.specs.ClaimText.{masks_text, frames_text, claim_text};
-ghost use Rattle.wording.specs.Inside.{row_due, short_line, long_line};
+ghost use Rattle.wording.specs.ClaimText.{numbers_text, masks_text, frames_text, claim_text};
+ghost use Rattle.wording.specs.Inside.{row_due, mask_line};
 
 use claim::{Part, due};
 use mask::Mask;
-use page::Sixteen;
+use page::Page;
+use slots::Slot;
 
-// The sixteen digits of a mask.
-fn put_mask(out: &mut [u8], at: usize, mask: Mask) -> usize
-    ensures put { Put out.old at (sixteen mask.bits) out.new result }
+// Puts the kind and numbers of a frame.
+fn put_numbers(page: &mut Page<'_>, numbers: &[usize])
+    ensures put { PutOn page.old (numbers_text numbers.now) page.new }
 {
-    page::put_sixteen(out, at, page::digits(mask.bits))
+    for &n in numbers {
+        page.two(n);
+    }
+}
+
+// Puts the sixteen digits of a mask.
+fn put_mask(page: &mut Page<'_>, mask: Mask)
+    ensures put { PutOn page.old (sixteen mask.bits) page.new }
+{
+    page.put(&page::digits(mask.bits));
+}
+
+// Puts a frame of one mask.
+fn put_line(page: &mut Page<'_>, numbers: &[usize], mask: Mask)
+    ensures put { PutOn page.old (mask_line numbers.now mask) page.new }
+{
+    put_numbers(page, numbers);
+    put_mask(page, mask);
+    page.byte(b'\n');
 }
 
 // The digits of a mask, where those of the mask before it are kept: masks that stand one after another are often the same.
-fn digits_after(kept: Sixteen, before: Mask, mask: Mask) -> Sixteen
-    ensures digits { digits_in kept ≡ sixteen before.bits → digits_in result ≡ sixteen mask.bits }
+fn digits_after(kept: [u8; 16], before: Mask, mask: Mask) -> [u8; 16]
+    ensures digits { kept ≡ sixteen before.bits → result ≡ sixteen mask.bits }
 {
-    if before.bits == mask.bits {
+    if before == mask {
         return kept;
     }
     page::digits(mask.bits)
 }
 
-// A frame of one number and one mask.
-fn put_short(out: &mut [u8], at: usize, kind: usize, a: usize, mask: Mask) -> usize
-    ensures put { Put out.old at (short_line kind a mask) out.new result }
-{
-    let first = page::put_two(&mut *out, at, kind);
-    let second = page::put_two(&mut *out, first, a);
-    let third = put_mask(&mut *out, second, mask);
-    page::put_byte(out, third, 10)
-}
-
-// A frame of two numbers and one mask.
-fn put_long(out: &mut [u8], at: usize, kind: usize, a: usize, b: usize, mask: Mask) -> usize
-    ensures put { Put out.old at (long_line kind a b mask) out.new result }
-{
-    let first = page::put_two(&mut *out, at, kind);
-    let second = page::put_two(&mut *out, first, a);
-    let third = page::put_two(&mut *out, second, b);
-    let fourth = put_mask(&mut *out, third, mask);
-    page::put_byte(out, fourth, 10)
-}
-
-// The masks of the registers at an address.
-fn put_registers(
-    t: &[u64; 768],
-    w: &[u64; 9712],
-    out: &mut [u8],
-    at: usize,
-    m: usize,
-    pc: usize,
-) -> usize
+// Puts the masks of the registers at an address.
+fn put_registers(page: &mut Page<'_>, t: &[u64; 768], w: &[u64; 9712], m: usize, pc: usize)
     ensures put { let p = program_in t.now in
         let c = claim_in w.now in
-        Put out.old at (masks_text c (tab (registers p m) (register_at m pc))) out.new result }
+        PutOn page.old (masks_text c (tab (registers p m) (register_at m pc))) page.new }
 {
-    let n = program::registers(t, m);
-    let mut before = Mask { bits: 0 };
-    let mut digits = page::digits(0);
-    let mut next = at;
-    let mut r: usize = 0;
-    while r < n {
-        let mask = slots::register(w, m, pc, r);
+    let count = program::registers(t, m);
+    let mut before = Mask::empty();
+    let mut digits = page::digits(before.bits);
+    for r in 0..count {
+        let mask = slots::mask(w, Slot::Register(m, pc, r));
         digits = digits_after(digits, before, mask);
         before = mask;
-        next = page::put_sixteen(&mut *out, next, digits);
-        r += 1;
+        page.put(&digits);
     }
-    next
 }
 
-// The frame of an address.
-fn put_address(
-    t: &[u64; 768],
-    w: &[u64; 9712],
-    out: &mut [u8],
-    at: usize,
-    m: usize,
-    pc: usize,
-) -> usize
+// Puts the frame of an address.
+fn put_address(page: &mut Page<'_>, t: &[u64; 768], w: &[u64; 9712], m: usize, pc: usize)
     ensures put { let p = program_in t.now in
         let c = claim_in w.now in
-        Put out.old at (frames_text c (frame_at p Address m pc)) out.new result }
+        PutOn page.old (frames_text c (frame_at p Address m pc)) page.new }
 {
-    let first = page::put_two(&mut *out, at, 17);
-    let second = page::put_two(&mut *out, first, m);
-    let third = page::put_two(&mut *out, second, pc);
-    let fourth = put_registers(t, w, &mut *out, third, m, pc);
-    let fifth = put_mask(&mut *out, fourth, slots::result(w, m, pc));
-    page::put_byte(out, fifth, 10)
+    put_numbers(page, &[17, m, pc]);
+    put_registers(page, t, w, m, pc);
+    put_mask(page, slots::mask(w, Slot::Result(m, pc)));
+    page.byte(b'\n');
 }
 
-// The frame of a class's field, if the class has it.
-fn put_field(
-    t: &[u64; 768],
-    w: &[u64; 9712],
-    out: &mut [u8],
-    at: usize,
-    k: usize,
-    x: usize,
-) -> usize
+// Puts the frame of a class's field, if the class has it.
+fn put_field(page: &mut Page<'_>, t: &[u64; 768], w: &[u64; 9712], k: usize, x: usize)
     ensures put { let p = program_in t.now in
         let c = claim_in w.now in
-        Put out.old at (frames_text c (frame_at p Field k x)) out.new result }
+        PutOn page.old (frames_text c (frame_at p Field k x)) page.new }
 {
     if search::has_field(t, k, x) {
-        return put_long(out, at, 18, k, x, slots::field(w, k, x));
+        put_line(page, &[18, k, x], slots::mask(w, Slot::Field(k, x)));
     }
-    at
 }
 
-// The frame at two numbers of a part, if there is one.
-fn put_frame(
-    t: &[u64; 768],
-    w: &[u64; 9712],
-    out: &mut [u8],
-    at: usize,
-    k: Part,
-    a: usize,
-    b: usize,
-) -> usize
+// Puts the frame at two numbers of a part, if there is one.
+fn put_frame(page: &mut Page<'_>, t: &[u64; 768], w: &[u64; 9712], k: Part, a: usize, b: usize)
     ensures put { let p = program_in t.now in
         let c = claim_in w.now in
-        Put out.old at (frames_text c (frame_at p k a b)) out.new result }
+        PutOn page.old (frames_text c (frame_at p k a b)) page.new }
 {
     match k {
-        Part::Address => put_address(t, w, out, at, a, b),
-        Part::Field => put_field(t, w, out, at, a, b),
-        Part::Static => put_short(out, at, 19, a, slots::of_static(w, a)),
-        Part::Returned => put_short(out, at, 20, a, slots::returned(w, a)),
-        Part::Leaving => put_short(out, at, 21, a, slots::leaving(w, a)),
+        Part::Address => put_address(page, t, w, a, b),
+        Part::Field => put_field(page, t, w, a, b),
+        Part::Static => put_line(page, &[19, a], slots::mask(w, Slot::Static(a))),
+        Part::Returned => put_line(page, &[20, a], slots::mask(w, Slot::Returned(a))),
+        Part::Leaving => put_line(page, &[21, a], slots::mask(w, Slot::Leaving(a))),
     }
 }
 
-// The frames of a part at its first number.
-fn put_row(t: &[u64; 768], w: &[u64; 9712], out: &mut [u8], at: usize, k: Part, a: usize) -> usize
+// Puts the frames of a part at its first number.
+fn put_row(page: &mut Page<'_>, t: &[u64; 768], w: &[u64; 9712], k: Part, a: usize)
     ensures put { let p = program_in t.now in
         let c = claim_in w.now in
-        Put out.old at (frames_text c (row_due p k a)) out.new result }
+        PutOn page.old (frames_text c (row_due p k a)) page.new }
 {
-    let n = due::inner(t, k, a);
-    let mut next = at;
-    let mut b: usize = 0;
-    while b < n {
-        next = put_frame(t, w, &mut *out, next, k, a, b);
-        b += 1;
+    for b in 0..due::inner(t, k, a) {
+        put_frame(page, t, w, k, a, b);
     }
-    next
 }
 
-// The frames of a part.
-fn put_part(t: &[u64; 768], w: &[u64; 9712], out: &mut [u8], at: usize, k: Part) -> usize
+// Puts the frames of a part.
+fn put_part(page: &mut Page<'_>, t: &[u64; 768], w: &[u64; 9712], k: Part)
     ensures put { let p = program_in t.now in
         let c = claim_in w.now in
-        Put out.old at (frames_text c (part_due p k)) out.new result }
+        PutOn page.old (frames_text c (part_due p k)) page.new }
 {
-    let n = due::outer(t, k);
-    let mut next = at;
-    let mut a: usize = 0;
-    while a < n {
-        next = put_row(t, w, &mut *out, next, k, a);
-        a += 1;
+    for a in 0..due::outer(t, k) {
+        put_row(page, t, w, k, a);
     }
-    next
 }
 
-// The whole text.
+// Puts the whole text to the front of out, as much as goes in, and answers how many bytes that are.
 pub fn put_claim(t: &[u64; 768], w: &[u64; 9712], out: &mut [u8]) -> usize
     ensures put { let p = program_in t.now in
         let c = claim_in w.now in
         Put out.old 0 (claim_text p c) out.new result }
+    ensures words { (i : ℕ) → get_or w.now i 0 < 2 ^ 64 }
 {
-    let fields = put_part(t, w, &mut *out, 0, Part::Address);
-    let statics = put_part(t, w, &mut *out, fields, Part::Field);
-    let returned = put_part(t, w, &mut *out, statics, Part::Static);
-    let leaving = put_part(t, w, &mut *out, returned, Part::Returned);
-    put_part(t, w, out, leaving, Part::Leaving)
+    let mut page = Page { out, at: 0 };
+    put_part(&mut page, t, w, Part::Address);
+    put_part(&mut page, t, w, Part::Field);
+    put_part(&mut page, t, w, Part::Static);
+    put_part(&mut page, t, w, Part::Returned);
+    put_part(&mut page, t, w, Part::Leaving);
+    page.at
 }

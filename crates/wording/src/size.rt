@@ -25,12 +25,9 @@ fn row_size(t: &[u64; 768], k: Part, a: usize) -> usize
     ensures value { (c : Claim) → result ≡ length (frames_text c (row_due (program_in t.now) k a)) }
     ensures range { result ≤ 131296 }
 {
-    let n = due::inner(t, k, a);
-    let mut size: usize = 0;
-    let mut b: usize = 0;
-    while b < n {
+    let mut size = 0;
+    for b in 0..due::inner(t, k, a) {
         size += frame_size(t, k, a, b);
-        b += 1;
     }
     size
 }
@@ -40,12 +37,9 @@ fn part_size(t: &[u64; 768], k: Part) -> usize
     ensures value { (c : Claim) → result ≡ length (frames_text c (part_due (program_in t.now) k)) }
     ensures range { result ≤ 7877760 }
 {
-    let n = due::outer(t, k);
-    let mut size: usize = 0;
-    let mut a: usize = 0;
-    while a < n {
+    let mut size = 0;
+    for a in 0..due::outer(t, k) {
         size += row_size(t, k, a);
-        a += 1;
     }
     size
 }

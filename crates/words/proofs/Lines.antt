@@ -1,59 +1,43 @@
--- The first line of a text, at most k bytes of it, by the bytes passed: it goes on, or it ends. Assumes nothing.
-use mathlib.Core.Path.{◌≡◌, refl, sym, ◌∙◌}
-use mathlib.Core.List.{List, [], ◌∷◌, ◌++◌, append-nil}
-use Prim.Native.Nat.{ℕ, zero, suc, ◌+◌, ◌-◌, ◌≤◌, ◌<◌}
-use native.Mathlib.Numerals.{add-one}
-use native.Mathlib.Omega.{arith}
-use borrow.Author.Tests.{eq-eqb, ne_eqb}
-use lib.ListN.{length, take, drop, get_or, drop_of_length-le}
-use lib.Seq.{take-suc, drop-cons, append_snoc}
+-- The first line of a text ends before the first line end, or after k bytes. Assumes nothing.
+use Rattle.std.proofs.Common.{◌≡◌, ◌∙◌, refl, sym, ap, ℕ, zero, suc, ◌+◌, ◌≤◌, min, List, [], ◌∷◌, length, take, Bool, true, false, cond, not, nat_eq, Some, None, arith}
+use Rattle.std.proofs.lemmas.List.{take_min}
+use borrow.Author.Tests.{ltb-false}
+use lib.Seq.{take_all}
+use Rattle.std.specs.List.{position, position_or_len}
 use Rattle.words.specs.Words.{line_by}
 
--- a line goes on, and it ends: after k bytes, where the text ends, at a line end
-more : (k x : ℕ) (xs : List ℕ) → (x ≡ 10 → ⊥) → line_by (suc k) (x ∷ xs) ≡ x ∷ line_by k xs
+-- a byte more: the line ends there, or goes on
+one_more : (end : Bool) (n x : ℕ) (xs ys : List ℕ) → take n xs ≡ ys → take (cond (not end) (1 + n) 0) (x ∷ xs) ≡ cond end [] (x ∷ ys)
+one_more true n x xs ys e = refl
+one_more false n x xs ys e = let next : 1 + n ≡ suc n = omega arith in rw (next, e)
+
+line_found : (k : ℕ) (xs : List ℕ) → take (position_or_len (λ b. nat_eq b 10) (take k xs)) (take k xs) ≡ line_by k xs
 unfolding line_by
-more k x xs ne = rw (ne_eqb x 10 ne)
+line_found zero xs = refl
+line_found (suc k) [] = refl
+line_found (suc k) (x ∷ xs) = one_more (nat_eq x 10) _ x (take k xs) (line_by k xs) (line_found k xs)
 
-none : (xs : List ℕ) → line_by 0 xs ≡ []
-unfolding line_by
-none xs = refl
+-- as many bytes as there are at most
+first_bytes : (xs : List ℕ) (n k : ℕ) → n ≡ min (length xs) k → take n xs ≡ take k xs
+first_bytes xs n k e = let same : n ≡ min k (length xs) = omega arith in ap (λ m. take m xs) same ∙ take_min k xs
 
-over : (k : ℕ) → line_by k [] ≡ []
-unfolding line_by
-over zero = refl
-over (suc k) = refl
+-- what a test finds
+found_at : (t : Bool) (m n : ℕ) → Some n ≡ cond t (Some m) None → n ≡ m
+found_at true m n e = cc
+found_at false m n e = cc
 
-ended : (k x : ℕ) (xs : List ℕ) → x ≡ 10 → line_by k (x ∷ xs) ≡ []
-unfolding line_by
-ended zero x xs e = refl
-ended (suc k) x xs e = rw (eq-eqb x 10 e)
+not_found : (t : Bool) (m : ℕ) → None ≡ cond t (Some m) None → t ≡ false
+not_found true m e = cc
+not_found false m e = refl
 
--- i bytes of the line are passed
-abbrev pub Passed : ℕ → List ℕ → ℕ → Type 0
-Passed k text i = (i ≤ k) × ((i ≤ length text) × (take i text ++ line_by (k - i) (drop i text) ≡ line_by k text))
+module _ (text line : List ℕ) (k n : ℕ) (is : line ≡ take n text) (most : n ≡ min (length text) k) where
+  pub line_to : (end : ℕ) → Some end ≡ position (λ b. nat_eq b 10) line → take end line ≡ line_by k text
+  line_to end found =
+      let whole : line ≡ take k text = is ∙ first_bytes text n k most in
+      ap (λ m. take m line) (found_at _ _ end found) ∙ rw whole (line_found k text)
 
--- they are the line
-abbrev Whole : ℕ → List ℕ → ℕ → Type 0
-Whole k text i = (i ≤ length text) × (take i text ≡ line_by k text)
-
-module _ (k : ℕ) (text : List ℕ) (i : ℕ) (p : Passed k text i) where
-  pub passed_more : i < k → i < length text → (get_or text i 0 ≡ 10 → ⊥) → Passed k text (i + 1)
-  passed_more less inside ne =
-      let left : k - i ≡ suc (k - suc i) = omega arith in (
-        omega arith,
-        (omega arith, rw (add-one i, take-suc text i 0 inside, append_snoc, ← more (k - suc i) (get_or text i 0) (drop (suc i) text) ne, ← drop-cons text i 0 inside, ← left) p.1.1),
-      )
-
-  whole : line_by (k - i) (drop i text) ≡ [] → Whole k text i
-  whole e = (p.1.0, sym (append-nil (take i text)) ∙ (rw e at p.1.1))
-
-  pub whole_full : k ≤ i → Whole k text i
-  whole_full full =
-      let left : k - i ≡ 0 = omega arith in
-      whole (rw left (none (drop i text)))
-
-  pub whole_text : length text ≤ i → Whole k text i
-  whole_text out = whole (rw (drop_of_length-le text out) (over (k - i)))
-
-  pub whole_line : i < length text → get_or text i 0 ≡ 10 → Whole k text i
-  whole_line inside e = whole (rw (drop-cons text i 0 inside) (ended (k - i) (get_or text i 0) (drop (suc i) text) e))
+  pub line_whole : None ≡ position (λ b. nat_eq b 10) line → line ≡ line_by k text
+  line_whole none =
+      let whole : line ≡ take k text = is ∙ first_bytes text n k most in
+      let past : length line ≤ position_or_len (λ b. nat_eq b 10) line = ltb-false _ _ (not_found _ _ none) in
+      sym (take_all _ line past) ∙ rw whole (line_found k text)

@@ -2,186 +2,163 @@
 // a table; a number that it does not have has no words.
 #![tactic(auto)]
 
-ghost use Rattle.std.specs.Prelude.{◌≡◌, ◌≤◌, length, get_or, take, drop};
+ghost use Rattle.std.specs.Prelude.{◌≡◌, nat_eq};
+ghost use Rattle.std.specs.List.{position};
+ghost use Rattle.page.specs.OnPage.{PutOn};
 ghost use Rattle.page.specs.Page.{Put};
-ghost use Rattle.words.specs.Words.{has_key, after_key, line_by, words_for};
+ghost use Rattle.words.specs.Words.{after_key, line_by, words_for};
 ghost use Rattle.words.specs.Told.{place_text, label_text, line_text, placed_text, refused_text, told, halt_told, run_told};
 
 use bounded::Outcome;
+use page::Page;
 use turn::Halt;
 use verdict::Verdict;
 
-// A byte some places after a place, 0 past the end.
-fn byte_from(table: &[u8], at: usize, more: usize) -> usize
-    requires { at ≤ length table.now }
-    ensures value { result ≡ get_or (drop at table.now) more 0 }
+// What follows the beginning of the entry of a kind and a number, nothing where there is none.
+fn after_key(table: &[u8], kind: u8, number: usize) -> &[u8]
+    ensures value { result.now ≡ after_key kind number table.now }
 {
-    if more < table.len() - at {
-        table[at + more] as usize
-    } else {
-        0
-    }
-}
-
-// Whether an entry begins at a place.
-fn key_at(table: &[u8], at: usize, kind: u8, number: usize) -> bool
-    requires { at ≤ length table.now }
-    ensures value { result ≡ has_key kind number (drop at table.now) }
-{
-    if byte_from(table, at, 0) != 10 {
-        return false;
-    }
-    if byte_from(table, at, 1) != kind as usize {
-        return false;
-    }
-    if byte_from(table, at, 2) != 48 + number / 10 % 10 {
-        return false;
-    }
-    if byte_from(table, at, 3) != 48 + number % 10 {
-        return false;
-    }
-    byte_from(table, at, 4) == 32
-}
-
-// The place after an entry's beginning, or the table's end.
-fn past_key(table: &[u8], at: usize) -> usize
-    requires { at ≤ length table.now }
-    ensures value { (result ≤ length table.now) × (drop result table.now ≡ drop 5 (drop at table.now)) }
-{
-    if table.len() - at < 5 {
-        return table.len();
-    }
-    at + 5
-}
-
-// Where the words of an entry begin, or the table's end.
-fn entry(table: &[u8], kind: u8, number: usize) -> usize
-    ensures value { (result ≤ length table.now) × (drop result table.now ≡ after_key kind number table.now) }
-{
-    let mut i = 0;
-    while i < table.len() {
-        if key_at(table, i, kind, number) {
-            return past_key(table, i);
+    let ten = b'0' + (number / 10 % 10) as u8;
+    let one = b'0' + (number % 10) as u8;
+    let key = [b'\n', kind, ten, one, b' '];
+    for i in 0..table.len() {
+        if let Some(words) = table[i..].strip_prefix(&key) {
+            return words;
         }
-        i += 1;
     }
-    i
+    b""
 }
 
-// How many bytes the first line of a text has, at most 100.
-fn line_length(text: &[u8]) -> usize
-    ensures value { (result ≤ length text.now) × (take result text.now ≡ line_by 100 text.now) }
+// The place of a text's first line end.
+fn line_end(text: &[u8]) -> Option<usize>
+    ensures value { result ≡ position (λ byte. nat_eq byte 10) text.now }
 {
-    let mut i = 0;
-    while i < text.len() {
-        if 100 <= i {
-            return i;
-        }
-        if text[i] == 10 {
-            return i;
-        }
-        i += 1;
+    text.iter().position(|&byte| byte == b'\n')
+}
+
+// The first line of a text, at most 100 bytes of it.
+fn first_line(text: &[u8]) -> &[u8]
+    ensures value { result.now ≡ line_by 100 text.now }
+{
+    let line = &text[..text.len().min(100)];
+    match line_end(line) {
+        Some(end) => &line[..end],
+        None => line,
     }
-    i
 }
 
 // Puts the words of an entry.
-fn put_words(table: &[u8], kind: u8, number: usize, out: &mut [u8], at: usize) -> usize
-    ensures put { Put out.old at (words_for table.now kind number) out.new result }
+fn put_words(page: &mut Page<'_>, table: &[u8], kind: u8, number: usize)
+    ensures put { PutOn page.old (words_for table.now kind number) page.new }
 {
-    let from = entry(table, kind, number);
-    let line = &table[from..];
-    let n = line_length(line);
-    page::put(out, at, &line[..n])
+    page.put(first_line(after_key(table, kind, number)));
 }
 
 // Puts a label, a number and a colon.
-fn put_label(label: &[u8], shown: usize, out: &mut [u8], at: usize) -> usize
-    ensures put { Put out.old at (label_text label.now shown) out.new result }
+fn put_label(page: &mut Page<'_>, label: &[u8], shown: usize)
+    ensures put { PutOn page.old (label_text label.now shown) page.new }
 {
-    let number = page::put(&mut *out, at, label);
-    let colon = page::put_decimal(&mut *out, number, shown);
-    page::put(&mut *out, colon, b": ")
+    page.put(label);
+    page.decimal(shown);
+    page.put(b": ");
 }
 
 // Puts a method and an address, and the line end.
-fn put_place(method: usize, address: usize, out: &mut [u8], at: usize) -> usize
-    ensures put { Put out.old at (place_text method address) out.new result }
+fn put_place(page: &mut Page<'_>, method: usize, address: usize)
+    ensures put { PutOn page.old (place_text method address) page.new }
 {
-    let first = page::put(&mut *out, at, b"; method ");
-    let comma = page::put_decimal(&mut *out, first, method);
-    let second = page::put(&mut *out, comma, b", address ");
-    let end = page::put_decimal(&mut *out, second, address);
-    page::put_byte(&mut *out, end, b'\n')
+    page.put(b"; method ");
+    page.decimal(method);
+    page.put(b", address ");
+    page.decimal(address);
+    page.byte(b'\n');
 }
 
 // Puts a label, a number, its words and a place.
 fn put_placed(
+    page: &mut Page<'_>,
     table: &[u8],
     label: &[u8],
     kind: u8,
     number: usize,
     method: usize,
     address: usize,
-    out: &mut [u8],
-) -> usize
-    ensures put { Put out.old 0 (placed_text table.now label.now kind number method address) out.new result }
+)
+    ensures put { PutOn page.old (placed_text table.now label.now kind number method address) page.new }
 {
-    let words = put_label(label, number, &mut *out, 0);
-    let place = put_words(table, kind, number, &mut *out, words);
-    put_place(method, address, &mut *out, place)
+    put_label(page, label, number);
+    put_words(page, table, kind, number);
+    put_place(page, method, address);
 }
 
 // Puts the label of a line, unless it is line 0.
-fn put_line(line: usize, out: &mut [u8]) -> usize
-    ensures put { Put out.old 0 (line_text line) out.new result }
+fn put_line(page: &mut Page<'_>, line: usize)
+    ensures put { PutOn page.old (line_text line) page.new }
 {
-    if line == 0 {
-        return 0;
+    if line != 0 {
+        put_label(page, b"line ", line);
     }
-    put_label(b"line ", line, out, 0)
 }
 
 // Puts a line, unless it is line 0, and the words of a refusal.
-fn put_refused(table: &[u8], number: usize, line: usize, out: &mut [u8]) -> usize
-    ensures put { Put out.old 0 (refused_text table.now number line) out.new result }
+fn put_refused(page: &mut Page<'_>, table: &[u8], number: usize, line: usize)
+    ensures put { PutOn page.old (refused_text table.now number line) page.new }
 {
-    let words = put_line(line, &mut *out);
-    let end = put_words(table, b'n', number, &mut *out, words);
-    page::put_byte(&mut *out, end, b'\n')
+    put_line(page, line);
+    put_words(page, table, b'n', number);
+    page.byte(b'\n');
+}
+
+// Puts what a verdict is in words.
+fn put_verdict(page: &mut Page<'_>, v: Verdict, table: &[u8])
+    ensures put { PutOn page.old (told table.now v) page.new }
+{
+    match v {
+        Verdict::Accepted(_) => {}
+        Verdict::Violated {
+            rule,
+            method,
+            address,
+        } => put_placed(page, table, b"rule ", b'r', rule, method, address),
+        Verdict::Refused { number, line } => put_refused(page, table, number, line),
+        Verdict::Short => put_refused(page, table, 23, 0),
+    }
 }
 
 // Puts what a verdict is in words to the front of out, as much as goes in, and answers how many bytes that are.
 pub fn tell(v: Verdict, table: &[u8], out: &mut [u8]) -> usize
     ensures words { Put out.old 0 (told table.now v) out.new result }
 {
-    match v {
-        Verdict::Accepted(_) => 0,
-        Verdict::Violated {
-            rule,
-            method,
-            address,
-        } => put_placed(table, b"rule ", b'r', rule, method, address, out),
-        Verdict::Refused { number, line } => put_refused(table, number, line, out),
-        Verdict::Short => put_refused(table, 23, 0, out),
-    }
+    let mut page = Page { out, at: 0 };
+    put_verdict(&mut page, v, table);
+    page.at
 }
 
 // Puts why a run stopped.
-fn put_halt(halt: Halt, method: usize, address: usize, table: &[u8], out: &mut [u8]) -> usize
-    ensures put { Put out.old 0 (halt_told table.now halt method address) out.new result }
+fn put_halt(page: &mut Page<'_>, halt: Halt, method: usize, address: usize, table: &[u8])
+    ensures put { PutOn page.old (halt_told table.now halt method address) page.new }
 {
     match halt {
-        Halt::Done => 0,
-        Halt::Uncaught => 0,
+        Halt::Done | Halt::Uncaught => {}
         Halt::Faulted(f) => {
             let number = answer::fault_number(f) as usize;
-            put_placed(table, b"fault ", b'f', number, method, address, out)
+            put_placed(page, table, b"fault ", b'f', number, method, address)
         }
-        Halt::FullStore => put_placed(table, b"stop ", b'n', 20, method, address, out),
-        Halt::FullStack => put_placed(table, b"stop ", b'n', 21, method, address, out),
-        Halt::StepsMade => put_placed(table, b"stop ", b'n', 22, method, address, out),
-        Halt::Outside => put_placed(table, b"stop ", b'n', 24, method, address, out),
+        Halt::FullStore | Halt::FullStack | Halt::StepsMade | Halt::Outside => {
+            let number = answer::halt_number(halt) as usize;
+            put_placed(page, table, b"stop ", b'n', number, method, address)
+        }
+    }
+}
+
+// Puts what became of a run, whose top frame is at a place, in words.
+fn put_run(page: &mut Page<'_>, o: Outcome, method: usize, address: usize, table: &[u8])
+    ensures put { PutOn page.old (run_told table.now o method address) page.new }
+{
+    match o {
+        Outcome::Refused { number, line } => put_refused(page, table, number as usize, line),
+        Outcome::Short => put_refused(page, table, 23, 0),
+        Outcome::Ran { halt, .. } => put_halt(page, halt, method, address, table),
     }
 }
 
@@ -190,9 +167,7 @@ fn put_halt(halt: Halt, method: usize, address: usize, table: &[u8], out: &mut [
 pub fn tell_run(o: Outcome, method: usize, address: usize, table: &[u8], out: &mut [u8]) -> usize
     ensures words { Put out.old 0 (run_told table.now o method address) out.new result }
 {
-    match o {
-        Outcome::Refused { number, line } => put_refused(table, number as usize, line, out),
-        Outcome::Short => put_refused(table, 23, 0, out),
-        Outcome::Ran { halt, .. } => put_halt(halt, method, address, table, out),
-    }
+    let mut page = Page { out, at: 0 };
+    put_run(&mut page, o, method, address, table);
+    page.at
 }

@@ -1,387 +1,66 @@
-// Instructions that stay in their frame, done in the lent slices. The functions of one instruction differ in what it comes to
-// alone.
+// Instructions that stay in their frame, done in the lent slices.
 #![tactic(auto)]
 
 ghost use Rattle.std.specs.Prelude.{◌≡◌};
-ghost use Rattle.drive.specs.Models.{done, lent};
-ghost use Rattle.work.specs.Work.{binop_done, branch_done, iget_done, iput_done, sget_done, sput_done, class_done, plain_done, leave_done, performed};
-ghost use Rattle.work.specs.Work.{from_branch, from_iget, from_iput, from_sget, from_sput, from_leaving, from_class};
+ghost use Rattle.drive.specs.Models.{done, held, Same};
+ghost use Rattle.work.specs.Work.{seen_in, worked_on, done_by, performed};
 
-use cells::{Frame, Object, Value};
-use site::{Gone, Site};
+use drive::Lent;
+use site::{Binop, Branch, Class, Gone, Iget, Iput, Kind, Plain, Seen, Sget, Site, Sput, Work};
 
-// binop.
-#[tactic(auto, unfolding(crate::specs::Work::worked))]
-fn binop(
-    t: &[u64; 768],
-    frames: &mut [Frame],
-    objects: &mut [Object],
-    statics: &mut [Value],
-    s: Site,
-) -> Gone
-    ensures after { let before = lent frames.old objects.old statics.old in
-        done result (lent frames.new objects.new statics.new) ≡ binop_done t.now before s }
+// What the instruction at a site looks at.
+fn seen(m: &Lent, s: Site) -> Seen
+    ensures value { result ≡ seen_in (held m.now) s }
 {
     let w = site::wanted(s);
-    let x = store::register_at(frames, s.top, w.first, w.none);
-    let y = store::register_at(frames, s.top, w.second, w.none);
-    let z = store::result_at(frames, s.top, w.none);
-    let i = cells::object_place(x);
-    let k = store::class_at(objects, i, w.class);
-    let v = store::cell_at(objects, i, w.field, w.none);
-    let g = store::static_at(statics, w.fixed, w.none);
-    let e = site::binop_work(t, s, x, y, z, k, v, g);
-    store::put_register(frames, s.top, e.to, e.value);
-    store::put_cell(objects, e.object, e.cell, e.value);
-    store::put_static(statics, e.fixed, e.value);
-    store::put_address(frames, s.top, e.address);
-    e.gone
-}
-
-// if.
-#[tactic(auto, unfolding(crate::specs::Work::worked))]
-fn branch(
-    t: &[u64; 768],
-    frames: &mut [Frame],
-    objects: &mut [Object],
-    statics: &mut [Value],
-    s: Site,
-) -> Gone
-    ensures after { let before = lent frames.old objects.old statics.old in
-        done result (lent frames.new objects.new statics.new) ≡ branch_done t.now before s }
-{
-    let w = site::wanted(s);
-    let x = store::register_at(frames, s.top, w.first, w.none);
-    let y = store::register_at(frames, s.top, w.second, w.none);
-    let z = store::result_at(frames, s.top, w.none);
-    let i = cells::object_place(x);
-    let k = store::class_at(objects, i, w.class);
-    let v = store::cell_at(objects, i, w.field, w.none);
-    let g = store::static_at(statics, w.fixed, w.none);
-    let e = site::branch_work(t, s, x, y, z, k, v, g);
-    store::put_register(frames, s.top, e.to, e.value);
-    store::put_cell(objects, e.object, e.cell, e.value);
-    store::put_static(statics, e.fixed, e.value);
-    store::put_address(frames, s.top, e.address);
-    e.gone
-}
-
-// iget.
-#[tactic(auto, unfolding(crate::specs::Work::worked))]
-fn get_field(
-    t: &[u64; 768],
-    frames: &mut [Frame],
-    objects: &mut [Object],
-    statics: &mut [Value],
-    s: Site,
-) -> Gone
-    ensures after { let before = lent frames.old objects.old statics.old in
-        done result (lent frames.new objects.new statics.new) ≡ iget_done t.now before s }
-{
-    let w = site::wanted(s);
-    let x = store::register_at(frames, s.top, w.first, w.none);
-    let y = store::register_at(frames, s.top, w.second, w.none);
-    let z = store::result_at(frames, s.top, w.none);
-    let i = cells::object_place(x);
-    let k = store::class_at(objects, i, w.class);
-    let v = store::cell_at(objects, i, w.field, w.none);
-    let g = store::static_at(statics, w.fixed, w.none);
-    let e = site::iget_work(t, s, x, y, z, k, v, g);
-    store::put_register(frames, s.top, e.to, e.value);
-    store::put_cell(objects, e.object, e.cell, e.value);
-    store::put_static(statics, e.fixed, e.value);
-    store::put_address(frames, s.top, e.address);
-    e.gone
-}
-
-// iput.
-#[tactic(auto, unfolding(crate::specs::Work::worked))]
-fn put_field(
-    t: &[u64; 768],
-    frames: &mut [Frame],
-    objects: &mut [Object],
-    statics: &mut [Value],
-    s: Site,
-) -> Gone
-    ensures after { let before = lent frames.old objects.old statics.old in
-        done result (lent frames.new objects.new statics.new) ≡ iput_done t.now before s }
-{
-    let w = site::wanted(s);
-    let x = store::register_at(frames, s.top, w.first, w.none);
-    let y = store::register_at(frames, s.top, w.second, w.none);
-    let z = store::result_at(frames, s.top, w.none);
-    let i = cells::object_place(x);
-    let k = store::class_at(objects, i, w.class);
-    let v = store::cell_at(objects, i, w.field, w.none);
-    let g = store::static_at(statics, w.fixed, w.none);
-    let e = site::iput_work(t, s, x, y, z, k, v, g);
-    store::put_register(frames, s.top, e.to, e.value);
-    store::put_cell(objects, e.object, e.cell, e.value);
-    store::put_static(statics, e.fixed, e.value);
-    store::put_address(frames, s.top, e.address);
-    e.gone
-}
-
-// sget.
-#[tactic(auto, unfolding(crate::specs::Work::worked))]
-fn get_static(
-    t: &[u64; 768],
-    frames: &mut [Frame],
-    objects: &mut [Object],
-    statics: &mut [Value],
-    s: Site,
-) -> Gone
-    ensures after { let before = lent frames.old objects.old statics.old in
-        done result (lent frames.new objects.new statics.new) ≡ sget_done t.now before s }
-{
-    let w = site::wanted(s);
-    let x = store::register_at(frames, s.top, w.first, w.none);
-    let y = store::register_at(frames, s.top, w.second, w.none);
-    let z = store::result_at(frames, s.top, w.none);
-    let i = cells::object_place(x);
-    let k = store::class_at(objects, i, w.class);
-    let v = store::cell_at(objects, i, w.field, w.none);
-    let g = store::static_at(statics, w.fixed, w.none);
-    let e = site::sget_work(t, s, x, y, z, k, v, g);
-    store::put_register(frames, s.top, e.to, e.value);
-    store::put_cell(objects, e.object, e.cell, e.value);
-    store::put_static(statics, e.fixed, e.value);
-    store::put_address(frames, s.top, e.address);
-    e.gone
-}
-
-// sput.
-#[tactic(auto, unfolding(crate::specs::Work::worked))]
-fn store_static(
-    t: &[u64; 768],
-    frames: &mut [Frame],
-    objects: &mut [Object],
-    statics: &mut [Value],
-    s: Site,
-) -> Gone
-    ensures after { let before = lent frames.old objects.old statics.old in
-        done result (lent frames.new objects.new statics.new) ≡ sput_done t.now before s }
-{
-    let w = site::wanted(s);
-    let x = store::register_at(frames, s.top, w.first, w.none);
-    let y = store::register_at(frames, s.top, w.second, w.none);
-    let z = store::result_at(frames, s.top, w.none);
-    let i = cells::object_place(x);
-    let k = store::class_at(objects, i, w.class);
-    let v = store::cell_at(objects, i, w.field, w.none);
-    let g = store::static_at(statics, w.fixed, w.none);
-    let e = site::sput_work(t, s, x, y, z, k, v, g);
-    store::put_register(frames, s.top, e.to, e.value);
-    store::put_cell(objects, e.object, e.cell, e.value);
-    store::put_static(statics, e.fixed, e.value);
-    store::put_address(frames, s.top, e.address);
-    e.gone
-}
-
-// instance-of and check-cast.
-#[tactic(auto, unfolding(crate::specs::Work::worked))]
-fn classes(
-    t: &[u64; 768],
-    frames: &mut [Frame],
-    objects: &mut [Object],
-    statics: &mut [Value],
-    s: Site,
-) -> Gone
-    ensures after { let before = lent frames.old objects.old statics.old in
-        done result (lent frames.new objects.new statics.new) ≡ class_done t.now before s }
-{
-    let w = site::wanted(s);
-    let x = store::register_at(frames, s.top, w.first, w.none);
-    let y = store::register_at(frames, s.top, w.second, w.none);
-    let z = store::result_at(frames, s.top, w.none);
-    let i = cells::object_place(x);
-    let k = store::class_at(objects, i, w.class);
-    let v = store::cell_at(objects, i, w.field, w.none);
-    let g = store::static_at(statics, w.fixed, w.none);
-    let e = site::class_work(t, s, x, y, z, k, v, g);
-    store::put_register(frames, s.top, e.to, e.value);
-    store::put_cell(objects, e.object, e.cell, e.value);
-    store::put_static(statics, e.fixed, e.value);
-    store::put_address(frames, s.top, e.address);
-    e.gone
-}
-
-// move, const, goto, unop, move-result, move-exception, nop.
-#[tactic(auto, unfolding(crate::specs::Work::worked))]
-fn plain(
-    t: &[u64; 768],
-    frames: &mut [Frame],
-    objects: &mut [Object],
-    statics: &mut [Value],
-    s: Site,
-) -> Gone
-    ensures after { let before = lent frames.old objects.old statics.old in
-        done result (lent frames.new objects.new statics.new) ≡ plain_done t.now before s }
-{
-    let w = site::wanted(s);
-    let x = store::register_at(frames, s.top, w.first, w.none);
-    let y = store::register_at(frames, s.top, w.second, w.none);
-    let z = store::result_at(frames, s.top, w.none);
-    let i = cells::object_place(x);
-    let k = store::class_at(objects, i, w.class);
-    let v = store::cell_at(objects, i, w.field, w.none);
-    let g = store::static_at(statics, w.fixed, w.none);
-    let e = site::plain_work(t, s, x, y, z, k, v, g);
-    store::put_register(frames, s.top, e.to, e.value);
-    store::put_cell(objects, e.object, e.cell, e.value);
-    store::put_static(statics, e.fixed, e.value);
-    store::put_address(frames, s.top, e.address);
-    e.gone
-}
-
-// An instruction that does not stay in its frame is not done here.
-fn leave(
-    t: &[u64; 768],
-    frames: &mut [Frame],
-    objects: &mut [Object],
-    statics: &mut [Value],
-    s: Site,
-) -> Gone
-    ensures after { let before = lent frames.old objects.old statics.old in
-        done result (lent frames.new objects.new statics.new) ≡ leave_done t.now before s }
-{
-    site::left(s)
-}
-
-// The instruction at a site. Each function asks for one kind and leaves the others to the next.
-fn from_class(
-    t: &[u64; 768],
-    frames: &mut [Frame],
-    objects: &mut [Object],
-    statics: &mut [Value],
-    s: Site,
-) -> Gone
-    ensures after { let before = lent frames.old objects.old statics.old in
-        done result (lent frames.new objects.new statics.new) ≡ from_class t.now before s }
-{
-    if site::is_class(s) {
-        classes(t, frames, objects, statics, s)
-    } else {
-        plain(t, frames, objects, statics, s)
+    let first = store::register_at(m.frames, s.top, w.first, w.none);
+    let i = first.place();
+    Seen {
+        first,
+        second: store::register_at(m.frames, s.top, w.second, w.none),
+        result: store::result_at(m.frames, s.top, w.none),
+        class: store::class_at(m.objects, i, w.class),
+        cell: store::cell_at(m.objects, i, w.field, w.none),
+        fixed: store::element_at(m.statics, w.fixed, w.none),
     }
 }
 
-fn from_leaving(
-    t: &[u64; 768],
-    frames: &mut [Frame],
-    objects: &mut [Object],
-    statics: &mut [Value],
-    s: Site,
-) -> Gone
-    ensures after { let before = lent frames.old objects.old statics.old in
-        done result (lent frames.new objects.new statics.new) ≡ from_leaving t.now before s }
+// What an instruction of frame `top` writes.
+fn put(m: &mut Lent, top: usize, e: Work)
+    ensures memory { held m.new ≡ worked_on (held m.old) top e }
+    ensures same { Same m.old m.new }
 {
-    if site::leaves(s) {
-        leave(t, frames, objects, statics, s)
-    } else {
-        from_class(t, frames, objects, statics, s)
-    }
+    store::put_register(m.frames, top, e.to, e.value);
+    store::put_cell(m.objects, e.object, e.cell, e.value);
+    store::put_element(m.statics, e.fixed, e.value);
+    store::put_address(m.frames, top, e.address);
 }
 
-fn from_sput(
-    t: &[u64; 768],
-    frames: &mut [Frame],
-    objects: &mut [Object],
-    statics: &mut [Value],
-    s: Site,
-) -> Gone
-    ensures after { let before = lent frames.old objects.old statics.old in
-        done result (lent frames.new objects.new statics.new) ≡ from_sput t.now before s }
+// An instruction of a kind. It is compiled apart for each.
+#[tactic(auto, unfolding(crate::specs::Work::worked))]
+fn done_by<K: Kind>(t: &[u64; 768], m: &mut Lent, s: Site) -> Gone
+    ensures after { done result (held m.new) ≡ done_by K.instruction t.now (held m.old) s }
+    ensures same { Same m.old m.new }
 {
-    if site::is_sput(s) {
-        store_static(t, frames, objects, statics, s)
-    } else {
-        from_leaving(t, frames, objects, statics, s)
-    }
+    let e = K::work(t, s, seen(m, s));
+    put(m, s.top, e);
+    e.gone
 }
 
-fn from_sget(
-    t: &[u64; 768],
-    frames: &mut [Frame],
-    objects: &mut [Object],
-    statics: &mut [Value],
-    s: Site,
-) -> Gone
-    ensures after { let before = lent frames.old objects.old statics.old in
-        done result (lent frames.new objects.new statics.new) ≡ from_sget t.now before s }
+// The instruction at a site. One that does not stay in its frame is not done here.
+pub fn perform(t: &[u64; 768], m: &mut Lent, s: Site) -> Gone
+    ensures after { done result (held m.new) ≡ performed t.now (held m.old) s }
+    ensures same { Same m.old m.new }
 {
-    if site::is_sget(s) {
-        get_static(t, frames, objects, statics, s)
-    } else {
-        from_sput(t, frames, objects, statics, s)
-    }
-}
-
-fn from_iput(
-    t: &[u64; 768],
-    frames: &mut [Frame],
-    objects: &mut [Object],
-    statics: &mut [Value],
-    s: Site,
-) -> Gone
-    ensures after { let before = lent frames.old objects.old statics.old in
-        done result (lent frames.new objects.new statics.new) ≡ from_iput t.now before s }
-{
-    if site::is_iput(s) {
-        put_field(t, frames, objects, statics, s)
-    } else {
-        from_sget(t, frames, objects, statics, s)
-    }
-}
-
-fn from_iget(
-    t: &[u64; 768],
-    frames: &mut [Frame],
-    objects: &mut [Object],
-    statics: &mut [Value],
-    s: Site,
-) -> Gone
-    ensures after { let before = lent frames.old objects.old statics.old in
-        done result (lent frames.new objects.new statics.new) ≡ from_iget t.now before s }
-{
-    if site::is_iget(s) {
-        get_field(t, frames, objects, statics, s)
-    } else {
-        from_iput(t, frames, objects, statics, s)
-    }
-}
-
-fn from_branch(
-    t: &[u64; 768],
-    frames: &mut [Frame],
-    objects: &mut [Object],
-    statics: &mut [Value],
-    s: Site,
-) -> Gone
-    ensures after { let before = lent frames.old objects.old statics.old in
-        done result (lent frames.new objects.new statics.new) ≡ from_branch t.now before s }
-{
-    if site::is_branch(s) {
-        branch(t, frames, objects, statics, s)
-    } else {
-        from_iget(t, frames, objects, statics, s)
-    }
-}
-
-// The instruction at a site.
-pub fn perform(
-    t: &[u64; 768],
-    frames: &mut [Frame],
-    objects: &mut [Object],
-    statics: &mut [Value],
-    s: Site,
-) -> Gone
-    ensures after { let before = lent frames.old objects.old statics.old in
-        done result (lent frames.new objects.new statics.new) ≡ performed t.now before s }
-{
-    if site::is_binop(s) {
-        binop(t, frames, objects, statics, s)
-    } else {
-        from_branch(t, frames, objects, statics, s)
+    match s.opcode {
+        5 => done_by::<Binop>(t, m, s),
+        4 => done_by::<Branch>(t, m, s),
+        8 => done_by::<Iget>(t, m, s),
+        9 => done_by::<Iput>(t, m, s),
+        10 => done_by::<Sget>(t, m, s),
+        11 => done_by::<Sput>(t, m, s),
+        7 | 12 | 13 | 16 | 17 | 18 => site::left(s),
+        19 | 20 => done_by::<Class>(t, m, s),
+        _ => done_by::<Plain>(t, m, s),
     }
 }

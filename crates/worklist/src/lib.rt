@@ -9,161 +9,80 @@ ghost use Rattle.program.specs.Program.{method_count, code_length};
 ghost use Rattle.program.specs.Tables.{program_in};
 ghost use Rattle.reader.specs.Formed.{Formed};
 ghost use Rattle.slots.specs.Layout.{claim_in, no_masks};
-ghost use Rattle.sets.specs.Sets.{sets_of};
 ghost use Rattle.order.specs.Order.{Least};
 ghost use Rattle.fixpoint.specs.Risen.{Risen, Upward};
 
+use crate::waits::Waits;
+use sets::Sets;
+
 // Visits an address, if there is one: its rules are met. Answers marks of what got new bits.
-fn visit(t: &[u64; 768], w: &mut [u64; 9712], s: &[u64; 80], m: usize, pc: usize) -> u64
-    requires { s.now ≡ sets_of (program_in t.now) }
-    ensures upward { let p = program_in t.now in
+fn visit<'a>(sets: &'a Sets<'a>, w: &mut [u64; 9712], m: usize, pc: usize) -> u64
+    ensures upward { let p = program_in sets.now.tables.now in
         let c = claim_in w.old in
         let d = claim_in w.new in
         (Formed p → Upward p c d) }
 {
-    if m < program::method_count(t) {
-        if pc < program::code_length(t, m) {
-            return transfer::raise_at(t, w, s, m, pc);
-        }
+    if m < program::method_count(sets.tables) && pc < program::code_length(sets.tables, m) {
+        return transfer::raise_at(sets, w, m, pc);
     }
     0
 }
 
-// Marks what depends on the slots that got new bits at an address: addresses of the method, entries of callees, calls, and the readers of
-// what was stored. Crate transfer says which bit of the news stands for which.
-fn mark_dependents(
-    t: &[u64; 768],
-    waiting: &mut [u64; 16],
-    readers: &[u64; 528],
-    m: usize,
-    pc: usize,
-    news: u64,
-) {
-    waits::add(&mut *waiting, m, news & 4294967295);
-    if news >> 32 == 0 {
-        return;
-    }
-    waits::add_entries(&mut *waiting, news >> 32 & 65535);
-    if news >> 48 & 1 == 1 {
-        waits::add_readers(&mut *waiting, readers, 32);
-    }
-    if news >> 49 & 1 == 1 {
-        waits::add_readers(
-            &mut *waiting,
-            readers,
-            waits::stores(program::instruction_at(t, m, pc)),
-        );
-    }
-}
-
-// Visits the lowest address of method m that waits. Answers the method to look at next, 16 where nothing waits: a method is emptied
-// before the next one.
-fn turn(
-    t: &[u64; 768],
-    w: &mut [u64; 9712],
-    s: &[u64; 80],
-    waiting: &mut [u64; 16],
-    readers: &[u64; 528],
-    m: usize,
-) -> usize
-    requires { s.now ≡ sets_of (program_in t.now) }
-    ensures upward { let p = program_in t.now in
+// Visits the lowest address of method m that waits. Answers the method to look at next, if something waits: a method is emptied before
+// the next one.
+fn turn<'a>(sets: &'a Sets<'a>, w: &mut [u64; 9712], waits: &mut Waits, m: usize) -> Option<usize>
+    ensures upward { let p = program_in sets.now.tables.now in
         let c = claim_in w.old in
         let d = claim_in w.new in
         (Formed p → Upward p c d) }
 {
-    let set = waits::at(waiting, m);
-    if set == 0 {
-        return waits::next(waiting, m);
-    }
-    let pc = waits::lowest(set);
-    waits::remove(&mut *waiting, m, waits::bit(pc));
-    let news = visit(t, w, s, m, pc);
-    mark_dependents(t, waiting, readers, m, pc, news);
-    m
+    let Some(pc) = waits.take(m) else {
+        return waits.next(m);
+    };
+    let news = visit(sets, w, m, pc);
+    waits.add_dependents(sets.tables, m, pc, news);
+    Some(m)
 }
 
 // Turns, until nothing waits or so many have been made.
-fn work(
-    t: &[u64; 768],
-    w: &mut [u64; 9712],
-    s: &[u64; 80],
-    waiting: &mut [u64; 16],
-    readers: &[u64; 528],
-    turns: usize,
-)
-    requires { s.now ≡ sets_of (program_in t.now) }
-    ensures upward { let p = program_in t.now in
+fn work<'a>(sets: &'a Sets<'a>, w: &mut [u64; 9712], waits: &mut Waits, turns: usize)
+    ensures upward { let p = program_in sets.now.tables.now in
         let c = claim_in w.old in
         let d = claim_in w.new in
         (Formed p → Upward p c d) }
 {
     let mut m: usize = 0;
-    let mut left = turns;
-    while left > 0 {
-        m = turn(t, &mut *w, s, &mut *waiting, readers, m);
-        if m > 15 {
+    for _turn in 0..turns {
+        let Some(next) = turn(sets, &mut *w, &mut *waits, m) else {
             return;
-        }
-        left -= 1;
+        };
+        m = next;
     }
 }
 
 // Visits an address whose rule is broken, then all that waits, which is everything at first.
-fn go_on(
-    t: &[u64; 768],
-    w: &mut [u64; 9712],
-    s: &[u64; 80],
-    waiting: &mut [u64; 16],
-    readers: &[u64; 528],
-    m: usize,
-    pc: usize,
-)
-    requires { s.now ≡ sets_of (program_in t.now) }
-    ensures risen { let p = program_in t.now in
+fn go_on<'a>(sets: &'a Sets<'a>, w: &mut [u64; 9712], waits: &mut Waits, m: usize, pc: usize)
+    ensures risen { let p = program_in sets.now.tables.now in
         let c = claim_in w.old in
         let d = claim_in w.new in
         (Formed p → m < method_count p → pc < code_length p m → Risen p m pc c d) }
 {
-    transfer::raise_at(t, &mut *w, s, m, pc);
-    waits::add_all(t, &mut *waiting);
-    work(t, w, s, waiting, readers, 1000000)
+    transfer::raise_at(sets, &mut *w, m, pc);
+    waits.add_all(sets.tables);
+    work(sets, w, waits, 1000000)
 }
 
-// Nothing, of a slice: where an array is lent as one, its length is known.
-fn sized(ws: &[u64]) {}
-
 // Raises the masks, from none, until no rule is broken. Each round adds a bit, and there are 621,568.
-fn fill_by(
-    t: &[u64; 768],
-    w: &mut [u64; 9712],
-    s: &[u64; 80],
-    waiting: &mut [u64; 16],
-    readers: &[u64; 528],
-)
-    requires { s.now ≡ sets_of (program_in t.now) }
-    ensures least { let p = program_in t.now in
+fn fill_by<'a>(sets: &'a Sets<'a>, w: &mut [u64; 9712], waits: &mut Waits)
+    ensures least { let p = program_in sets.now.tables.now in
         let d = claim_in w.new in
         (Formed p → w.old ≡ no_masks → Least p d) }
 {
-    let mut broken = rules::first_broken(t, w);
-    let mut left: usize = 621569;
-    while left > 0 {
-        if broken.rule == rules::NO_RULE {
+    for _round in 0..621569usize {
+        let Some(broken) = rules::first_broken(sets.tables, w) else {
             return;
-        }
-        go_on(
-            t,
-            &mut *w,
-            s,
-            &mut *waiting,
-            readers,
-            broken.method,
-            broken.address,
-        );
-        sized(w);
-        broken = rules::first_broken(t, w);
-        left -= 1;
+        };
+        go_on(sets, &mut *w, &mut *waits, broken.method, broken.address);
     }
 }
 
@@ -173,10 +92,8 @@ pub fn fill(t: &[u64; 768], w: &mut [u64; 9712])
         let d = claim_in w.new in
         (Formed p → w.old ≡ no_masks → Least p d) }
 {
-    let mut s = [0u64; 80];
-    sets::fill(t, &mut s);
-    let mut readers = [0u64; 528];
-    waits::list_readers(t, &mut readers);
-    let mut waiting = [0u64; 16];
-    fill_by(t, w, &s, &mut waiting, &readers)
+    let sets = Sets::of(t);
+    let mut waits = Waits::none();
+    waits.list_readers(t);
+    fill_by(&sets, w, &mut waits)
 }

@@ -1,131 +1,128 @@
-// Marks of addresses that wait to be visited, a word a method and a bit an address, and of the addresses that read a slot. They guide the
-// order of the work: no promise says anything of them. Every function takes any words and numbers.
+// Marks of addresses that wait to be visited, and of the addresses that read a slot. They guide the order of the work: no promise says
+// anything of them. Every method takes any numbers.
 use instruction::Instruction;
+use raise::words::{CALLEES, OUT, STORED};
 
-// The word at a place; past the last 0.
-pub fn at(ws: &[u64], i: usize) -> u64 {
-    if i < ws.len() { ws[i] } else { 0 }
+// Which of the readers the calls are: after those of each field and of each static.
+const CALLS: usize = 32;
+
+// The addresses that wait, a word a method and a bit an address, and in the same way the readers of each field and static, and the calls.
+#[derive(Drop)]
+pub struct Waits {
+    waiting: [u64; 16],
+    readers: [[u64; 16]; 33],
 }
 
-// Adds bits to the word at a place; past the last, nothing.
-pub fn add(ws: &mut [u64], i: usize, bits: u64) {
-    if i < ws.len() {
-        ws[i] = ws[i] | bits;
-    }
-}
-
-// Takes bits from the word at a place.
-pub fn remove(ws: &mut [u64], i: usize, bits: u64) {
-    if i < ws.len() {
-        ws[i] = ws[i] ^ (ws[i] & bits);
-    }
-}
-
-// The number of the lowest bit that is set; 64 where none is.
-pub fn lowest(set: u64) -> usize {
-    u64::trailing_zeros(set) as usize
-}
-
-// The mark of an address; of one past the last, none.
-pub fn bit(k: usize) -> u64 {
-    if k < 64 { 1 << k as u64 } else { 0 }
-}
-
-// Which readers an instruction is among: 0 to 15 those of a field, 16 to 31 those of a static, 32 the calls; 33 none.
-fn reads(i: Instruction) -> usize {
+// Which readers an instruction is among.
+fn reads(i: Instruction) -> Option<usize> {
     match i {
-        Instruction::Iget { field, .. } => field as usize,
-        Instruction::Sget { place, .. } => 16 + place as usize,
-        Instruction::InvokeVirtual { .. } => 32,
-        Instruction::InvokeStatic { .. } => 32,
-        _ => 33,
+        Instruction::Iget { field, .. } => Some(field as usize),
+        Instruction::Sget { place, .. } => Some(16 + place as usize),
+        Instruction::InvokeVirtual { .. } => Some(CALLS),
+        Instruction::InvokeStatic { .. } => Some(CALLS),
+        _ => None,
     }
 }
 
 // Which readers wait for what an instruction stores.
-pub fn stores(i: Instruction) -> usize {
+fn stores(i: Instruction) -> Option<usize> {
     match i {
-        Instruction::Iput { field, .. } => field as usize,
-        Instruction::Sput { place, .. } => 16 + place as usize,
-        _ => 33,
+        Instruction::Iput { field, .. } => Some(field as usize),
+        Instruction::Sput { place, .. } => Some(16 + place as usize),
+        _ => None,
     }
 }
 
-// Marks the instructions of a method among the readers, 16 words for each kind.
-fn list_method(t: &[u64; 768], readers: &mut [u64; 528], m: usize) {
-    let n = program::code_length(t, m);
-    let mut pc: usize = 0;
-    while pc < n {
-        let kind = reads(program::instruction_at(t, m, pc));
-        if kind < 33 {
-            if m < 16 {
-                add(&mut *readers, kind * 16 + m, bit(pc));
+// Adds bits to the word of a method, if there is one.
+fn add(words: &mut [u64; 16], m: usize, bits: u64) {
+    if let Some(word) = words.get_mut(m) {
+        *word |= bits;
+    }
+}
+
+impl Waits {
+    // Nothing waits, and nothing reads.
+    pub fn none() -> Self {
+        Waits {
+            waiting: [0; 16],
+            readers: [[0; 16]; 33],
+        }
+    }
+
+    // Lists the readers of each field and static, and the calls.
+    pub fn list_readers(&mut self, t: &[u64; 768]) {
+        for m in 0..program::method_count(t) {
+            for pc in 0..program::code_length(t, m) {
+                if let Some(kind) = reads(program::instruction_at(t, m, pc)) {
+                    if kind < 33 && pc < 64 {
+                        add(&mut self.readers[kind], m, 1 << pc);
+                    }
+                }
             }
         }
-        pc += 1;
     }
-}
 
-// The readers of each field and static, and the calls.
-pub fn list_readers(t: &[u64; 768], readers: &mut [u64; 528]) {
-    let n = program::method_count(t);
-    let mut m: usize = 0;
-    while m < n {
-        list_method(t, &mut *readers, m);
-        m += 1;
-    }
-}
-
-// Adds the readers of one kind.
-pub fn add_readers(waiting: &mut [u64; 16], readers: &[u64; 528], kind: usize) {
-    if kind < 33 {
-        let mut m: usize = 0;
-        while m < 16 {
-            add(&mut *waiting, m, at(readers, kind * 16 + m));
-            m += 1;
+    // Adds the readers of one kind.
+    fn add_readers(&mut self, kind: usize) {
+        if let Some(readers) = self.readers.get(kind) {
+            for (word, bits) in self.waiting.iter_mut().zip(readers) {
+                *word |= *bits;
+            }
         }
     }
-}
 
-// Adds address 0 of each method in a set.
-pub fn add_entries(waiting: &mut [u64; 16], set: u64) {
-    let mut rest = set;
-    let mut m: usize = 0;
-    while m < 16 {
-        add(&mut *waiting, m, rest & 1);
-        rest = rest >> 1;
-        m += 1;
-    }
-}
-
-// The marks of the first n addresses of a method.
-fn first(n: usize) -> u64 {
-    if n < 32 {
-        4294967295 >> (32 - n) as u64
-    } else {
-        4294967295
-    }
-}
-
-// Adds every address of the program.
-pub fn add_all(t: &[u64; 768], waiting: &mut [u64; 16]) {
-    let mut m: usize = 0;
-    while m < 16 {
-        add(&mut *waiting, m, first(program::code_length(t, m)));
-        m += 1;
-    }
-}
-
-// The next method after m, in a circle, at which an address waits; 16 where none does.
-pub fn next(waiting: &[u64; 16], m: usize) -> usize {
-    let mut q = m;
-    let mut left: usize = 16;
-    while left > 0 {
-        q = if q < 15 { q + 1 } else { 0 };
-        if at(waiting, q) != 0 {
-            return q;
+    // Adds address 0 of each method in a set.
+    fn add_entries(&mut self, set: u64) {
+        for (m, word) in self.waiting.iter_mut().enumerate() {
+            *word |= set >> m & 1;
         }
-        left -= 1;
     }
-    16
+
+    // Adds every address of the program.
+    pub fn add_all(&mut self, t: &[u64; 768]) {
+        for (m, word) in self.waiting.iter_mut().enumerate() {
+            let n = program::code_length(t, m).min(32);
+            *word |= (1 << n) - 1;
+        }
+    }
+
+    // Adds what depends on the slots that got new bits at an address, by their marks: addresses of the method, entries of callees, calls,
+    // and the readers of what was stored.
+    pub fn add_dependents(&mut self, t: &[u64; 768], m: usize, pc: usize, news: u64) {
+        add(&mut self.waiting, m, news & 4294967295);
+        if news >> CALLEES == 0 {
+            return;
+        }
+        self.add_entries(news >> CALLEES & 65535);
+        if news >> OUT & 1 == 1 {
+            self.add_readers(CALLS);
+        }
+        if news >> STORED & 1 == 1 {
+            if let Some(kind) = stores(program::instruction_at(t, m, pc)) {
+                self.add_readers(kind);
+            }
+        }
+    }
+
+    // Takes the lowest address of a method that waits.
+    pub fn take(&mut self, m: usize) -> Option<usize> {
+        let word = self.waiting.get_mut(m)?;
+        if *word == 0 {
+            return None;
+        }
+        let pc = word.trailing_zeros() as usize;
+        *word &= *word - 1;
+        Some(pc)
+    }
+
+    // The next method after m, in a circle, at which an address waits.
+    pub fn next(&self, m: usize) -> Option<usize> {
+        for k in 1..17 {
+            let q = (m % 16 + k) % 16;
+            if self.waiting[q] != 0 {
+                return Some(q);
+            }
+        }
+        None
+    }
 }

@@ -13,18 +13,6 @@ ghost use Rattle.writer.specs.Claimed.{least_text, with_program, writing, LeastF
 
 use output::Output;
 
-// Looks at every word: each is below 2 to the 64th.
-fn fits(ws: &[u64])
-    ensures fits { (i : ℕ) → get_or ws.now i 0 < 2 ^ 64 }
-{
-    let mut all: u64 = 0;
-    let mut i: usize = 0;
-    while i < ws.len() {
-        all = all | ws[i];
-        i += 1;
-    }
-}
-
 // The text of the least claim of the program in tables, by way of words for its masks.
 fn write_least(t: &[u64; 768], w: &mut [u64; 9712], memory: &mut [u8])
     requires { Formed (program_in t.now)
@@ -34,7 +22,6 @@ fn write_least(t: &[u64; 768], w: &mut [u64; 9712], memory: &mut [u8])
         memory.new ≡ x ++ drop (length x) memory.old }
 {
     worklist::fill(t, &mut *w);
-    fits(w);
     wording::put::put_claim(t, w, memory);
 }
 
@@ -61,12 +48,10 @@ fn write_by(program: &[u8], t: &mut [u64; 768], memory: &mut [u8]) -> Output
     ensures memory { let x = writing program.now (length memory.old) in
         memory.new ≡ memory_after x memory.old }
 {
-    let read = reader::fill(program, &mut *t);
-    let number = reader::number_of(read);
-    if number != 0 {
+    if let Err(refused) = reader::fill(program, &mut *t) {
         return Output::Refused {
-            number: number as usize,
-            line: reader::line_of(read),
+            number: refused.number() as usize,
+            line: refused.line(),
         };
     }
     write_tables(t, memory)

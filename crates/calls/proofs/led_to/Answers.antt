@@ -1,4 +1,4 @@
--- `calls::led_to` meets its contract. The loop's invariant: the set has the callees before the next method. Assumes nothing.
+-- `calls::led_to` meets its contract. Assumes nothing.
 use mathlib.Core.Path.{◌∙◌}
 use Prim.Native.Nat.{◌≤◌, ◌<◌}
 use native.Mathlib.Omega.{arith}
@@ -17,33 +17,28 @@ use Rattle.calls.proofs.led_to.Goals as goal
 pub loop-q-init : goal.loop-q-init
 loop-q-init c =
     let a = c.args in
-    (omega arith, start (leads_to (program_in a.t.now) a.mask a.name a.count))
-
-pub leads-requires : goal.leads-requires
-leads-requires c = c.requires
+    start (leads_to (program_in a.s.now.tables.now) a.mask a.name a.count) c.empty-set.result c.empty-set.ensures.bits
 
 pub loop-q-preserved : goal.loop-q-preserved
 loop-q-preserved c =
     let a = c.args in
-    let p = program_in a.t.now in
-    let few : method_count p ≤ 16 = methods_limit a.t.now in (
-      omega arith,
-      added (leads_to p a.mask a.name a.count) c.loop-q.set c.add-set.result c.loop-q.q c.leads.result
-          (omega (arith, c.method_count-n.ensures.value))
-          c.leads.ensures.value
-          c.add-set.ensures.bits
-          c.loop-q.invariant.1,
-    )
+    let p = program_in a.s.now.tables.now in
+    let few : method_count p ≤ 16 = methods_limit a.s.now.tables.now in
+    added (leads_to p a.mask a.name a.count) c.loop-q.set c.add-set.result c.loop-q.q c.leads.result
+    (omega (arith, c.method_count-q-end.ensures.value))
+    c.leads.ensures.value
+    c.add-set.ensures.bits
+    c.loop-q.invariant
 
 pub returns : goal.returns
 returns c = record {
   callees = λ q.
       let a = c.args in
-      let p = program_in a.t.now in
-      c.loop-q.invariant.1 q
+      let p = program_in a.s.now.tables.now in
+      c.loop-q.invariant q
       ∙ by_test (leads_to p a.mask a.name a.count q)
       (λ t.
       let l : q < method_count p = leads_few p a.mask a.name a.count q t in
-      rw (t, lt-ltb q c.loop-q.q (omega (arith, c.method_count-n.ensures.value))))
+      rw (t, lt-ltb q c.loop-q.q (omega (arith, c.method_count-q-end.ensures.value))))
       (λ t. rw t (and_false (ltb q c.loop-q.q)));
 }

@@ -23,7 +23,7 @@ module _ (ws : List ℕ) (m pc to : ℕ) where
 pub returns-then-row_flows : goal.returns-then-row_flows
 returns-then-row_flows c =
     let a = c.args in
-    record { value = sym (every_all (registers (program_in a.t.now) a.m) (test a.w.now a.m a.pc a.to) (λ r l. registers_in_lem a.w.now a.m a.pc a.to (sym c.row_flows.ensures.value ∙ c.if-row_flows.true) r)) }
+    record { value = c.if-row_flows.true ∙ sym (every_all (registers (program_in a.t.now) a.m) (test a.w.now a.m a.pc a.to) (λ r l. registers_in_lem a.w.now a.m a.pc a.to (sym c.row_flows.ensures.value ∙ c.if-row_flows.true) r)) }
 
 pub returns-else-row_flows : goal.returns-else-row_flows
 returns-else-row_flows c =

@@ -16,7 +16,4 @@ pub returns-then-row_flows : goal.returns-then-row_flows
 returns-then-row_flows c =
     let a = c.args in
     let test : ℕ → Bool = λ r. kept (claim_in a.w.now) (register_at a.m a.pc r ⊆ register_at a.m a.to r) in
-    record { value = all_asked (registers (program_in a.t.now) a.m) (λ r. not (eqb r a.a)) test (registers_in_lem a.w.now a.m a.pc a.to (sym c.row_flows.ensures.value ∙ c.if-row_flows.true)) }
-
-pub returns-else-row_flows : goal.returns-else-row_flows
-returns-else-row_flows c = record { value = c.carried_except.ensures.value }
+    record { value = c.if-row_flows.true ∙ all_asked (registers (program_in a.t.now) a.m) (λ r. not (eqb r a.a)) test (registers_in_lem a.w.now a.m a.pc a.to (sym c.row_flows.ensures.value ∙ c.if-row_flows.true)) }

@@ -14,8 +14,8 @@ pub returns-then-end-ne0 : goal.returns-then-end-ne0
 returns-then-end-ne0 c =
     let a = c.args in
     let told = told_stopped (program_in a.t.now) a.text.now _ (omega (arith, c.if-text-gt262144.false)) c.take_parts-end.result a.w.now
-    c.requires c.take_parts-end.ensures.progress c.refusal.result c.if-end-ne0.true
-    c.refusal.ensures.value in
+    c.requires c.take_parts-end.ensures.progress c.refused_by.result c.if-end-ne0.true
+    c.refused_by.ensures.value in
     record { answer = told.0; masks = told.1 }
 
 pub returns-then-more-ne0 : goal.returns-then-more-ne0
@@ -23,7 +23,7 @@ returns-then-more-ne0 c =
     let a = c.args in
     let told = told_more (program_in a.t.now) a.text.now _ (omega (arith, c.if-text-gt262144.false)) c.take_parts-end.result a.w.now
     c.requires c.take_parts-end.ensures.progress c.if-end-ne0.false c.after_last-more.result c.after_last-more.ensures.value
-    c.refusal-then-more-ne0.result c.if-more-ne0.true c.refusal-then-more-ne0.ensures.value in
+    c.refused_by-then-more-ne0.result c.if-more-ne0.true c.refused_by-then-more-ne0.ensures.value in
     record { answer = told.0; masks = told.1 }
 
 pub returns : goal.returns

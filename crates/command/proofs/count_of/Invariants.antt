@@ -1,12 +1,9 @@
--- `command::count_of`: what its loops keep, and what falls.
+-- `command::count_of`: what its loop keeps.
 use mathlib.Core.Path.{◌≡◌}
-use Prim.Native.Nat.{◌-◌, ◌≤◌}
-use lib.ListN.{length, drop}
+use Prim.Native.Nat.{◌≤◌}
+use lib.ListN.{drop}
 use Rattle.command.proofs.Counts.{steps_from}
 use Rattle.command.proofs.count_of.Given as goal
 
-abbrev pub invariant-loop-i : goal.invariant-loop-i
-invariant-loop-i l = (l.i ≤ length l.word) × (l.n ≤ 1000000) × (steps_from l.n (drop l.i l.word) ≡ steps_from 0 l.word)
-
-abbrev pub decreases-loop-i : goal.decreases-loop-i
-decreases-loop-i l = length l.word - l.i
+abbrev pub invariant-loop-b : goal.invariant-loop-b
+invariant-loop-b l = (l.n ≤ 1000000) × (steps_from l.n (drop l.b-index l.word) ≡ steps_from 0 l.word)

@@ -1,5 +1,5 @@
--- `marks::scan` meets its contract. The loop's invariant: the first mark from line i on is the first mark. The measure is how
--- many lines are left. Assumes nothing.
+-- `marks::scan` meets its contract. The loop's invariant: the first mark from line i on is the first mark. Assumes
+-- nothing.
 use mathlib.Core.Path.{◌≡◌, sym, ◌∙◌}
 use Prim.Native.Nat.{◌+◌}
 use native.Mathlib.Omega.{arith}
@@ -14,7 +14,7 @@ unfolding marks_in
 loop-i-init c =
     let a = c.args in
     let p = program_in a.t.now in
-    (omega arith, rw c.lines_in-n.ensures.value (mark_start (lines_in p a.k a.m) (mark_at p a.k a.m) a.line))
+    rw c.lines_in-n.ensures.value (mark_start (lines_in p a.k a.m) (mark_at p a.k a.m) a.line)
 
 pub overflow_add-result : goal.overflow_add-result
 overflow_add-result c =
@@ -32,12 +32,10 @@ returns-then-mark-ne0 c =
 
 pub loop-i-preserved : goal.loop-i-preserved
 loop-i-preserved c =
-    let a = c.args in (
-      omega arith,
-      c.loop-i.invariant.1
-          ∙ mark_next c.lines_in-n.result (mark_at (program_in a.t.now) a.k a.m) a.line c.loop-i.i
-          (omega arith) (sym c.mark_at-mark.ensures.value ∙ c.if-mark-ne0.false),
-    )
+    let a = c.args in
+    c.loop-i.invariant
+    ∙ mark_next c.lines_in-n.result (mark_at (program_in a.t.now) a.k a.m) a.line c.loop-i.i
+    (omega arith) (sym c.mark_at-mark.ensures.value ∙ c.if-mark-ne0.false)
 
 pub overflow_add-result-2 : goal.overflow_add-result-2
 overflow_add-result-2 c =
@@ -49,6 +47,6 @@ returns c =
     let a = c.args in
     record {
       value = sym
-          (c.loop-i.invariant.1
+          (c.loop-i.invariant
           ∙ mark_end c.lines_in-n.result (mark_at (program_in a.t.now) a.k a.m) a.line c.loop-i.i (omega arith));
     }

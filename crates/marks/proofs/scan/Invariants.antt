@@ -1,6 +1,5 @@
--- `marks::scan`: what its loops keep, and what falls.
+-- `marks::scan`: what its loop keeps.
 use mathlib.Core.Path.{◌≡◌}
-use Prim.Native.Nat.{◌-◌, ◌≤◌}
 use Rattle.program.specs.Tables.{program_in}
 use Rattle.marks.specs.Marks.{mark_at, marks_in, first_mark}
 use Rattle.marks.proofs.First.{mark_from}
@@ -8,7 +7,4 @@ use Rattle.marks.proofs.scan.Given as goal
 
 abbrev pub invariant-loop-i : goal.invariant-loop-i
 invariant-loop-i l =
-    (l.i ≤ l.n) × (first_mark (marks_in (program_in l.t) l.k l.m) l.line ≡ mark_from l.n (mark_at (program_in l.t) l.k l.m) l.line l.i)
-
-abbrev pub decreases-loop-i : goal.decreases-loop-i
-decreases-loop-i l = l.n - l.i
+    first_mark (marks_in (program_in l.t) l.k l.m) l.line ≡ mark_from l.n (mark_at (program_in l.t) l.k l.m) l.line l.i

@@ -1,5 +1,5 @@
 -- `marks::scan_methods` meets its contract. The loop's invariant: the first mark from method m on is the first mark, and no
--- method has more than 41 lines. The measure is how many methods are left. Assumes nothing.
+-- method has more than 41 lines. Assumes nothing.
 use mathlib.Core.Path.{ap, sym, ◌∙◌}
 use mathlib.Core.List.{List}
 use Prim.Native.Nat.{ℕ}
@@ -17,7 +17,6 @@ loop-m-init c =
     let a = c.args in
     let p = program_in a.t.now in (
       omega arith,
-      omega arith,
       rw c.method_count-n.ensures.value (ap (λ (xs : List ℕ). first_mark xs a.line) (joined_start (method_count p) (method_marks p))),
     )
 
@@ -30,15 +29,14 @@ returns-then-s-ne0 c =
     record {
       value = joined_here c.method_count-n.result (method_marks (program_in a.t.now)) c.loop-m.m c.loop-m.at (omega arith) _
           c.scan_method-s.ensures.value c.if-s-ne0.true
-          ∙ sym c.loop-m.invariant.2;
+          ∙ sym c.loop-m.invariant.1;
     }
 
 pub loop-m-preserved : goal.loop-m-preserved
 loop-m-preserved c =
     let a = c.args in (
-      omega arith,
       omega (arith, method_limit a.t.now c.loop-m.m c.loop-m.at _ c.scan_method-s.ensures.value),
-      c.loop-m.invariant.2
+      c.loop-m.invariant.1
           ∙ joined_on c.method_count-n.result (method_marks (program_in a.t.now)) c.loop-m.m c.loop-m.at (omega arith) _
           c.scan_method-s.ensures.value c.if-s-ne0.false,
     )
@@ -48,6 +46,6 @@ returns c =
     let a = c.args in
     record {
       value = sym
-          (c.loop-m.invariant.2
+          (c.loop-m.invariant.1
           ∙ joined_end c.method_count-n.result (method_marks (program_in a.t.now)) c.loop-m.m c.loop-m.at (omega arith));
     }

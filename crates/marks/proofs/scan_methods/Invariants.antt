@@ -1,6 +1,6 @@
--- `marks::scan_methods`: what its loops keep, and what falls.
+-- `marks::scan_methods`: what its loop keeps.
 use mathlib.Core.Path.{◌≡◌}
-use Prim.Native.Nat.{◌+◌, ◌*◌, ◌-◌, ◌≤◌}
+use Prim.Native.Nat.{◌+◌, ◌*◌, ◌≤◌}
 use Rattle.program.specs.Program.{method_count}
 use Rattle.program.specs.Tables.{program_in}
 use Rattle.program.specs.Lists.{joined}
@@ -10,10 +10,6 @@ use Rattle.marks.proofs.scan_methods.Given as goal
 
 abbrev pub invariant-loop-m : goal.invariant-loop-m
 invariant-loop-m l =
-    (l.m ≤ l.n)
-    × (l.at ≤ l.line + 41 * l.m)
+    (l.at ≤ l.line + 41 * l.m)
     × (first_mark (joined (method_count (program_in l.t)) (method_marks (program_in l.t))) l.line
     ≡ first_mark (joined_from l.n (method_marks (program_in l.t)) l.m) l.at)
-
-abbrev pub decreases-loop-m : goal.decreases-loop-m
-decreases-loop-m l = l.n - l.m

@@ -1,6 +1,12 @@
 -- `report::put_accepted` meets its contract. Assumes nothing.
-use Rattle.page.proofs.Puts.{put_then}
+use Rattle.rows.proofs.Loops.{put_joined}
+use Rattle.report.specs.Printed.{call_line, call_lines, accepted_word}
 use Rattle.report.proofs.put_accepted.Goals as goal
 
-pub returns : goal.returns
-returns c = record { put = put_then c.put-next.ensures.put (rw c.at_most.ensures.value at c.put_calls.ensures.put) }
+pub loop-i-init : goal.loop-i-init
+unfolding call_lines
+loop-i-init c = c.put.ensures.put
+
+pub loop-i-preserved : goal.loop-i-preserved
+unfolding call_lines
+loop-i-preserved c = put_joined accepted_word (call_line c.args.memory.now) c.loop-i.i c.loop-i.invariant c.put_call.ensures.put

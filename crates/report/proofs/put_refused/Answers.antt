@@ -1,6 +1,6 @@
 -- `report::put_refused` meets its contract. Assumes nothing.
-use Rattle.page.proofs.Puts.{put_then}
+use Rattle.page.proofs.OnPages.{◌⨾◌}
 use Rattle.report.proofs.put_refused.Goals as goal
 
 pub returns : goal.returns
-returns c = record { put = put_then c.put-first.ensures.put (put_then c.put_two-second.ensures.put (put_then c.put_byte-third.ensures.put (put_then c.put_eight-end.ensures.put c.put_byte.ensures.put))) }
+returns c = record { put = c.put.ensures.put ⨾ c.two.ensures.put ⨾ c.byte.ensures.put ⨾ c.eight.ensures.put ⨾ c.byte-2.ensures.put }

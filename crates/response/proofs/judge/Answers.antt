@@ -10,8 +10,8 @@ returns-then-claim-le65536 c =
     (c.check.ensures.verdict, c.check.ensures.memory) in
     record { verdict = there.0; memory = there.1 }
 
-pub returns : goal.returns
-returns c =
+pub returns-else-claim-le65536 : goal.returns-else-claim-le65536
+returns-else-claim-le65536 c =
     let start = c.args in
     let there =
     judged_long start.panel.now start.claim.now start.memory.now _ _ c.if-claim-le65536.false

@@ -6,7 +6,7 @@ pub returns : goal.returns
 returns c =
     let start = c.args in
     let there =
-    claimed start.panel.now start.claim.now start.table.now start.out.now _ start.line.now _ c.lent-memory.result _ c.judge-v.result _ _
+    claimed start.panel.now start.claim.now start.table.now start.out.now _ start.line.now _ _ _ c.judge-v.result _ _
     (c.judge-v.ensures.verdict, c.judge-v.ensures.memory)
     (c.write-printed.ensures.count, c.write-printed.ensures.memory)
     c.tell-told.ensures.words in

@@ -1,6 +1,6 @@
 -- `rows::put_state` meets its contract. Assumes nothing.
-use Rattle.page.proofs.Puts.{put_then}
+use Rattle.page.proofs.OnPages.{◌⨾◌}
 use Rattle.rows.proofs.put_state.Goals as goal
 
 pub returns : goal.returns
-returns c = record { put = put_then (put_then (rw c.at_most-count.ensures.value at c.put_frames-second.ensures.put) c.put_objects-third.ensures.put) c.put_statics.ensures.put }
+returns c = record { put = c.put_frames.ensures.put ⨾ c.put_objects.ensures.put ⨾ c.put_statics.ensures.put }

@@ -1,22 +1,15 @@
 -- `rows::put_value` meets its contract. Assumes nothing.
-use mathlib.Core.Path.{sym, ap}
-use mathlib.Core.List.{List, ◌∷◌}
-use Prim.Native.Nat.{ℕ}
-use Rattle.page.proofs.Puts.{put_then, put_as}
+use Rattle.page.proofs.OnPages.{◌⨾◌}
 use Rattle.rows.proofs.Values.{number_word, object_word_lem}
 use Rattle.rows.proofs.put_value.Goals as goal
 
 pub returns-then-word-lt4294967296 : goal.returns-then-word-lt4294967296
 returns-then-word-lt4294967296 c = record {
-  put = put_as
-      (put_then c.put_byte-next.ensures.put c.put_eight.ensures.put)
-      (ap (λ (l : List ℕ). 32 ∷ l) (sym (number_word _ c.if-word-lt4294967296.true)));
+  put = c.byte.ensures.put ⨾ rw (number_word _ c.if-word-lt4294967296.true) c.eight.ensures.put;
 }
 
-pub returns : goal.returns
-returns c = record {
-  put = put_as
-      (put_then c.put_byte-next.ensures.put
-      (put_then c.put_byte-number.ensures.put c.put_two.ensures.put))
-      (ap (λ (l : List ℕ). 32 ∷ l) (sym (object_word_lem _ c.if-word-lt4294967296.false)));
+pub returns-else-word-lt4294967296 : goal.returns-else-word-lt4294967296
+returns-else-word-lt4294967296 c = record {
+  put = c.byte.ensures.put
+      ⨾ rw (object_word_lem _ c.if-word-lt4294967296.false) (c.byte-else-word-lt4294967296.ensures.put ⨾ c.two.ensures.put);
 }

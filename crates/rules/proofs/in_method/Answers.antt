@@ -1,60 +1,51 @@
--- `rules::in_method` meets its contract. The loop's invariant: no rule is broken before the next address. Assumes nothing.
+-- `rules::in_method` meets its contract. Assumes nothing.
 use mathlib.Core.Path.{◌≡◌, sym, ap, ◌∙◌}
 use Prim.Native.Nat.{◌<◌}
 use native.Mathlib.Omega.{arith}
 use borrow.Author.Count.{below_more}
-use borrow.Author.Tests.{eq-eqb, ne_eqb}
 use Rattle.program.specs.Program.{code_length}
 use Rattle.program.specs.Tables.{program_in}
 use Rattle.program.proofs.Read.{in_code}
-use Rattle.flow.specs.Verdict.{accepted, violated}
-use Rattle.flow.proofs.Verdicts.{first_all}
+use Rattle.flow.specs.Verdict.{accepted}
 use Rattle.slots.specs.Layout.{claim_in}
-use Rattle.rules.specs.Broken.{no_rule, address_verdict, broken_of}
-use Rattle.rules.proofs.Numbers.{address_says, first_here}
+use Rattle.rules.specs.Broken.{address_verdict, broken_of}
+use Rattle.rules.proofs.Numbers.{saying, address_says, none_broken, broken_there}
 use Rattle.rules.proofs.in_method.Goals as goal
 
-pub loop-pc-init : goal.loop-pc-init
-loop-pc-init c = (omega arith, λ k l. absurd (omega arith))
+pub invariant_of-site : goal.invariant_of-site
+invariant_of-site c =
+    let t = c.args.sets.now.tables.now in
+    let l : c.loop-address.address < code_length (program_in t) c.args.method = omega (arith, c.code_length-address-end.ensures.value) in
+    record { inside = (in_code t c.args.method c.loop-address.address l).1 }
 
-pub at_address-rule-requires : goal.at_address-rule-requires
-at_address-rule-requires c =
-    let a = c.args in
-    let l : c.loop-pc.pc < code_length (program_in a.t.now) a.m = omega (arith, c.code_length-n.ensures.value) in
-    ((in_code a.t.now a.m c.loop-pc.pc l).1, c.requires)
-
-pub returns-then-rule-ne-NO_RULE : goal.returns-then-rule-ne-NO_RULE
-returns-then-rule-ne-NO_RULE c =
-    let a = c.args in
-    let p = program_in a.t.now in
-    let cl = claim_in a.w.now in
-    let r = c.at_address-rule.result in
-    let l : c.loop-pc.pc < code_length p a.m = omega (arith, c.code_length-n.ensures.value) in
-    let here : address_verdict p cl a.m c.loop-pc.pc ≡ violated r a.m c.loop-pc.pc =
-    address_says p cl a.m c.loop-pc.pc ∙ rw (sym c.at_address-rule.ensures.value, ne_eqb r no_rule c.if-rule-ne-NO_RULE.true) in
+pub returns-in-Some : goal.returns-in-Some
+returns-in-Some c =
+    let p = program_in c.args.sets.now.tables.now in
+    let cl = claim_in c.args.claim.now in
+    let m = c.args.method in
+    let pc = c.loop-address.address in
+    let said = address_says p cl m pc ∙ ap (λ r. saying r m pc) (sym c.broken.ensures.value ∙ c.in-Some.is) in
     record {
-      value = ap broken_of
-          (sym (first_here (code_length p a.m) (address_verdict p cl a.m) c.loop-pc.pc r a.m c.loop-pc.pc l c.loop-pc.invariant.1 here));
+      value = broken_there (code_length p m) (address_verdict p cl m) pc _
+          (omega (arith, c.code_length-address-end.ensures.value))
+          c.loop-address.invariant
+          (sym (ap broken_of said));
     }
 
-pub loop-pc-preserved : goal.loop-pc-preserved
-loop-pc-preserved c =
-    let a = c.args in
-    let p = program_in a.t.now in
-    let cl = claim_in a.w.now in
-    let r = c.at_address-rule.result in
-    let here : address_verdict p cl a.m c.loop-pc.pc ≡ accepted =
-    address_says p cl a.m c.loop-pc.pc ∙ rw (sym c.at_address-rule.ensures.value, eq-eqb r no_rule c.if-rule-ne-NO_RULE.false) in
-    (omega arith, λ k l. below_more _ _ c.loop-pc.invariant.1 here k (omega arith))
+pub loop-address-preserved : goal.loop-address-preserved
+loop-address-preserved c =
+    let p = program_in c.args.sets.now.tables.now in
+    let cl = claim_in c.args.claim.now in
+    let m = c.args.method in
+    let pc = c.loop-address.address in
+    let here : address_verdict p cl m pc ≡ accepted =
+    address_says p cl m pc ∙ ap (λ r. saying r m pc) (sym c.broken.ensures.value ∙ c.in_default.is) in
+    below_more _ _ c.loop-address.invariant here
 
 pub returns : goal.returns
 returns c =
-    let a = c.args in
-    let p = program_in a.t.now in
+    let p = program_in c.args.sets.now.tables.now in
     record {
-      value = c.none.ensures.value
-          ∙ ap broken_of
-          (sym
-          (first_all (code_length p a.m) (address_verdict p (claim_in a.w.now) a.m)
-          (λ k l. c.loop-pc.invariant.1 k (omega (arith, c.code_length-n.ensures.value)))));
+      value = none_broken (code_length p c.args.method) (address_verdict p (claim_in c.args.claim.now) c.args.method)
+          (λ k l. c.loop-address.invariant k (omega (arith, c.code_length-address-end.ensures.value)));
     }

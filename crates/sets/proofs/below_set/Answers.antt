@@ -13,14 +13,14 @@ use Rattle.sets.proofs.Upward.{below_start, below_is}
 use Rattle.sets.proofs.below_set.Goals as goal
 
 pub loop-k-init : goal.loop-k-init
-loop-k-init c = below_start (program_in c.args.t.now) c.args.j
+loop-k-init c = below_start (program_in c.args.t.now) c.args.j c.empty-set.result c.empty-set.ensures.bits
 
 pub loop-k-preserved : goal.loop-k-preserved
 loop-k-preserved c =
     let a = c.args in
     let p = program_in a.t.now in
     let k = c.loop-k.k in
-    let l : k < class_count p = omega (arith, c.class_count-n.ensures.value) in
+    let l : k < class_count p = omega (arith, c.class_count-k-end.ensures.value) in
     added (λ i. ltb i (class_count p) && below p i a.j) c.loop-k.set c.add-set.result k c.is_below.result
     (omega (arith, classes_limit a.t.now))
     (c.is_below.ensures.value ∙ below_is p a.j c.loop-k.set k l c.loop-k.invariant)
@@ -32,5 +32,5 @@ returns c = record {
   bits = λ k.
       let a = c.args in
       let p = program_in a.t.now in
-      c.loop-k.invariant k ∙ finish (class_count p) c.loop-k.k k (below p k a.j) (omega (arith, c.class_count-n.ensures.value));
+      c.loop-k.invariant k ∙ finish (class_count p) c.loop-k.k k (below p k a.j) (omega (arith, c.class_count-k-end.ensures.value));
 }

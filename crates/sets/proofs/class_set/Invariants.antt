@@ -1,7 +1,7 @@
--- `sets::class_set`: what its loops keep, and what falls.
+-- `sets::class_set`: what its loop keeps.
 use mathlib.Core.Path.{◌≡◌}
 use mathlib.Core.Bool.{true, ◌&&◌}
-use Prim.Native.Nat.{ℕ, ◌-◌}
+use Prim.Native.Nat.{ℕ}
 use lib.Dec.{ltb}
 use Rattle.mask.specs.Mask.{has}
 use Rattle.program.specs.Program.{class_count}
@@ -10,6 +10,3 @@ use Rattle.sets.proofs.class_set.Given as goal
 
 abbrev pub invariant-loop-k : goal.invariant-loop-k
 invariant-loop-k l = (i : ℕ) → has l.set i ≡ ltb i l.k && (ltb i (class_count (program_in l.t)) && true)
-
-abbrev pub decreases-loop-k : goal.decreases-loop-k
-decreases-loop-k l = l.n - l.k

@@ -5,20 +5,17 @@ use native.Mathlib.Omega.{arith}
 use Rattle.text.proofs.Digits.{run_past}
 use Rattle.text.proofs.after_blocks.Goals as goal
 
-pub returns-then-at-text : goal.returns-then-at-text
-returns-then-at-text c = record { place = omega arith; end = refl }
-
 pub loop-i-init : goal.loop-i-init
 loop-i-init c = (omega arith, omega arith, refl)
-
-pub returns-then-not-block : goal.returns-then-not-block
-returns-then-not-block c = record { place = c.loop-i.invariant.0; end = c.loop-i.invariant.2 }
 
 pub loop-i-preserved : goal.loop-i-preserved
 loop-i-preserved c =
     let text = c.args.text.now in
-    let digits = sym c.block.ensures.digits ∙ c.if-not-block.false in
+    let digits = sym c.block.ensures.digits ∙ c.if-block.true in
     (omega arith, omega arith, c.loop-i.invariant.2 ∙ run_past text c.loop-i.i 16 (omega arith) digits)
 
-pub returns : goal.returns
-returns c = record { place = c.loop-i.invariant.0; end = c.loop-i.invariant.2 }
+pub returns-else-block-clause-end : goal.returns-else-block-clause-end
+returns-else-block-clause-end c = c.loop-i.invariant.2
+
+pub returns-after-loop-i-clause-end : goal.returns-after-loop-i-clause-end
+returns-after-loop-i-clause-end c = c.loop-i.invariant.2

@@ -1,30 +1,20 @@
--- `text::run` meets its contract. The invariant: the run at `i` ends where the run at `at` does. The measure is what is left of
--- the text. Assumes nothing.
-use mathlib.Core.Path.{◌∙◌}
-use Prim.Native.Nat.{◌≤◌}
-use native.Mathlib.Omega.{arith}
-use lib.ListN.{get_or}
+-- `text::run` meets its contract: the digits before the place after the blocks, and those in front from there on. Assumes nothing.
+use Rattle.std.proofs.Common.{◌≡◌, ltb, drop, ◌∙◌, arith, rules, tests}
+use Rattle.std.proofs.lemmas.Iterator.{YieldsList-from_slice}
+use Rattle.std.proofs.lemmas.Iterator.Consumers.{count_from_yields_List}
+use Rattle.std.proofs.lemmas.Iterator.Search.{YieldsList-from_take_while}
+use Rattle.std.proofs.lemmas.List.{take_rest}
+use Rattle.std.proofs.lemmas.List.Folds.{length-prefix_len}
 use Rattle.text.specs.Hex.{digit_of}
-use Rattle.text.proofs.Scan.{run_more, run_stop, run_end}
+use Rattle.text.specs.Run.{digit_run}
+use Rattle.text.proofs.Digits.{run_front}
 use Rattle.text.proofs.run.Goals as goal
-
-pub loop-i-init : goal.loop-i-init
-loop-i-init c = (c.after_blocks-i.ensures.place, c.after_blocks-i.ensures.end)
-
-pub returns-then-digit-ge16 : goal.returns-then-digit-ge16
-returns-then-digit-ge16 c =
-    let text = c.args.text.now in
-    let stop : 16 ≤ digit_of (get_or text c.loop-i.i 0) = rw c.digit.ensures.value at c.if-digit-ge16.true in
-    record { digits = omega (arith, c.loop-i.invariant.1, run_stop text c.loop-i.i c.loop-i-test.true stop) }
-
-pub loop-i-preserved : goal.loop-i-preserved
-loop-i-preserved c = (
-  omega arith,
-  c.loop-i.invariant.1
-      ∙ run_more _ _ c.loop-i-test.true (rw c.digit.ensures.value at c.if-digit-ge16.false),
-)
 
 pub returns : goal.returns
 returns c =
-    let text = c.args.text.now in
-    record { digits = omega (arith, c.loop-i.invariant.1, run_end text c.loop-i.i c.loop-i-test.false) }
+    let rest = drop c.after_blocks-i.result c.args.text.now in
+    let front : c.count.result ≡ digit_run rest =
+    count_from_yields_List c.take_while.result _ c.count.ensures.ran (YieldsList-from_take_while _ (λ b. ltb (digit_of b) 16) (YieldsList-from_slice rest (search (rules, take_rest c.args.text.now c.after_blocks-i.result))) c.take_while.ensures.closure c.take_while.ensures.done (λ x b q k. search (rules, tests)))
+    ∙ length-prefix_len (λ b. ltb (digit_of b) 16) rest
+    ∙ run_front rest in
+    record { digits = omega (arith, c.after_blocks-i.ensures.place, c.after_blocks-i.ensures.end, front) }

@@ -8,6 +8,3 @@ use Rattle.values.proofs.repeated.Given as goal
 
 abbrev pub invariant-loop-k : goal.invariant-loop-k
 invariant-loop-k l = (j : ℕ) → j < l.k → alike (program_in l.t) l.m j ≡ false
-
-abbrev pub decreases-loop-k : goal.decreases-loop-k
-decreases-loop-k l = l.m - l.k

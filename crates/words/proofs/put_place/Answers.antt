@@ -1,6 +1,6 @@
 -- `words::put_place` meets its contract. Assumes nothing.
-use Rattle.page.proofs.Puts.{put_then}
+use Rattle.page.proofs.OnPages.{◌⨾◌}
 use Rattle.words.proofs.put_place.Goals as goal
 
 pub returns : goal.returns
-returns c = record { put = put_then (put_then (put_then (put_then c.put-first.ensures.put c.put_decimal-comma.ensures.put) c.put-second.ensures.put) c.put_decimal-end.ensures.put) c.put_byte.ensures.put }
+returns c = record { put = c.put.ensures.put ⨾ c.decimal.ensures.put ⨾ c.put-2.ensures.put ⨾ c.decimal-2.ensures.put ⨾ c.byte.ensures.put }

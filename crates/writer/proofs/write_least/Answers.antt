@@ -6,8 +6,7 @@ use Rattle.writer.proofs.write_least.Goals as goal
 
 pub returns : goal.returns
 returns c =
-    let start = c in
-    let p = program_in start.args.t.now in
-    let least = c.fill.ensures.least start.requires.0 start.requires.1 in
-    let text = text_is p start.requires.0 _ c.fits.ensures.fits least in
-    record { memory = (whole (put_as c.put_claim.ensures.put text) start.requires.2).1 }
+    let p = program_in c.args.t.now in
+    let least = c.fill.ensures.least c.requires.0 c.requires.1 in
+    let text = text_is p c.requires.0 _ c.put_claim.ensures.words least in
+    record { memory = (whole (put_as c.put_claim.ensures.put text) c.requires.2).1 }

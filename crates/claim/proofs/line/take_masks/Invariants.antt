@@ -1,6 +1,6 @@
--- `claim::line::take_masks`: what its loops keep, and what falls.
+-- `claim::line::take_masks`: what its loop keeps.
 use mathlib.Core.Path.{◌≡◌}
-use Prim.Native.Nat.{◌+◌, ◌*◌, ◌-◌, ◌≤◌}
+use Prim.Native.Nat.{◌+◌, ◌*◌}
 use Rattle.program.specs.Lists.{tab}
 use Rattle.flow.specs.Claim.{register_at}
 use Rattle.claim.specs.Inside.{mask_in, masks_in}
@@ -9,9 +9,5 @@ use Rattle.claim.proofs.line.take_masks.Given as goal
 
 abbrev pub invariant-loop-r : goal.invariant-loop-r
 invariant-loop-r l =
-    (l.r ≤ l.n)
-    × (l.bits ≡ mask_in l.text (l.at + 16 * l.r))
+    (l.bits ≡ mask_in l.text (l.at + 16 * l.r))
     × (masks_in l.text l.at l.allowed (tab l.n (register_at l.m l.pc)) l.initial.w ≡ masks_after l.text l.allowed l.n (register_at l.m l.pc) l.at l.r l.w)
-
-abbrev pub decreases-loop-r : goal.decreases-loop-r
-decreases-loop-r l = l.n - l.r

@@ -1,5 +1,5 @@
 -- `claim::walk::take_part` meets its contract. The loop's invariant: the frames from first number a on, taken where the walk
--- stands, are all frames taken where it began. The measure is how many first numbers are left. Assumes nothing.
+-- stands, are all frames taken where it began. Assumes nothing.
 use mathlib.Core.Path.{sym, ap, ◌∙◌}
 use Prim.Native.Nat.{ℕ}
 use Rattle.program.specs.Lists.{joined}
@@ -15,29 +15,21 @@ pub loop-a-init : goal.loop-a-init
 loop-a-init c =
     let a = c.args in
     let p = program_in a.t.now in (
-      omega arith,
       c.requires,
       frames_start p c.outer-n.result (row_due p a.k)
           (progress_of a.text.now a.from a.w.now),
     )
 
 pub take_row-to-requires : goal.take_row-to-requires
-take_row-to-requires c = c.loop-a.invariant.1
-
-pub overflow_add-a : goal.overflow_add-a
-overflow_add-a c = omega (arith, c.loop-a-test.true)
-
-pub loop-a-smaller : goal.loop-a-smaller
-loop-a-smaller c = omega (arith, c.loop-a-test.true)
+take_row-to-requires c = c.loop-a.invariant.0
 
 pub loop-a-preserved : goal.loop-a-preserved
 loop-a-preserved c =
     let a = c.args in
     let p = program_in a.t.now in (
-      omega (arith, c.loop-a-test.true),
       c.take_row-to.ensures.place,
-      c.loop-a.invariant.2 ∙ frames_next p c.outer-n.result
-          (row_due p a.k) c.loop-a.a c.loop-a-test.true (progress_of a.text.now c.loop-a.to c.loop-a.w) ∙ ap
+      c.loop-a.invariant.1 ∙ frames_next p c.outer-n.result
+          (row_due p a.k) c.loop-a.a (omega arith) (progress_of a.text.now c.loop-a.to c.loop-a.w) ∙ ap
           (frames_from p c.outer-n.result (row_due p a.k) _) (sym c.take_row-to.ensures.progress),
     )
 
@@ -47,10 +39,10 @@ returns c =
     let a = c.args in
     let p = program_in a.t.now in
     record {
-      place = c.loop-a.invariant.1;
+      place = c.loop-a.invariant.0;
       progress = sym
-          (c.loop-a.invariant.2 ∙ frames_end_lem p c.outer-n.result (row_due p a.k) c.loop-a.a
-          c.loop-a-test.false (progress_of a.text.now c.loop-a.to c.loop-a.w)) ∙ ap
+          (c.loop-a.invariant.1 ∙ frames_end_lem p c.outer-n.result (row_due p a.k) c.loop-a.a
+          (omega arith) (progress_of a.text.now c.loop-a.to c.loop-a.w)) ∙ ap
           (λ (n : ℕ). take_frames p (joined n (row_due p a.k)) (progress_of a.text.now a.from a.w.now))
           c.outer-n.ensures.value;
     }

@@ -1,5 +1,5 @@
 -- `claim::walk::take_row` meets its contract. The loop's invariant: the frames from number b on, taken where the walk stands,
--- are all frames taken where it began. The measure is how many numbers are left. Assumes nothing.
+-- are all frames taken where it began. Assumes nothing.
 use mathlib.Core.Path.{sym, ap, ◌∙◌}
 use Prim.Native.Nat.{ℕ}
 use Rattle.program.specs.Lists.{joined}
@@ -15,29 +15,21 @@ pub loop-b-init : goal.loop-b-init
 loop-b-init c =
     let a = c.args in
     let p = program_in a.t.now in (
-      omega arith,
       c.requires,
       frames_start p c.inner-n.result (frame_at p a.k a.a)
           (progress_of a.text.now a.from a.w.now),
     )
 
 pub take_at-to-requires : goal.take_at-to-requires
-take_at-to-requires c = c.loop-b.invariant.1
-
-pub overflow_add-b : goal.overflow_add-b
-overflow_add-b c = omega (arith, c.loop-b-test.true)
-
-pub loop-b-smaller : goal.loop-b-smaller
-loop-b-smaller c = omega (arith, c.loop-b-test.true)
+take_at-to-requires c = c.loop-b.invariant.0
 
 pub loop-b-preserved : goal.loop-b-preserved
 loop-b-preserved c =
     let a = c.args in
     let p = program_in a.t.now in (
-      omega (arith, c.loop-b-test.true),
       c.take_at-to.ensures.place,
-      c.loop-b.invariant.2 ∙ frames_next p c.inner-n.result
-          (frame_at p a.k a.a) c.loop-b.b c.loop-b-test.true (progress_of a.text.now c.loop-b.to c.loop-b.w) ∙ ap
+      c.loop-b.invariant.1 ∙ frames_next p c.inner-n.result
+          (frame_at p a.k a.a) c.loop-b.b (omega arith) (progress_of a.text.now c.loop-b.to c.loop-b.w) ∙ ap
           (frames_from p c.inner-n.result (frame_at p a.k a.a) _) (sym c.take_at-to.ensures.progress),
     )
 
@@ -46,10 +38,10 @@ returns c =
     let a = c.args in
     let p = program_in a.t.now in
     record {
-      place = c.loop-b.invariant.1;
+      place = c.loop-b.invariant.0;
       progress = sym
-          (c.loop-b.invariant.2 ∙ frames_end_lem p c.inner-n.result (frame_at p a.k a.a) c.loop-b.b
-          c.loop-b-test.false (progress_of a.text.now c.loop-b.to c.loop-b.w)) ∙ ap
+          (c.loop-b.invariant.1 ∙ frames_end_lem p c.inner-n.result (frame_at p a.k a.a) c.loop-b.b
+          (omega arith) (progress_of a.text.now c.loop-b.to c.loop-b.w)) ∙ ap
           (λ (n : ℕ). take_frames p (joined n (frame_at p a.k a.a)) (progress_of a.text.now a.from a.w.now))
           c.inner-n.ensures.value;
     }

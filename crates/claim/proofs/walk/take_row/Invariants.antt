@@ -1,6 +1,5 @@
--- `claim::walk::take_row`: what its loops keep, and what falls.
+-- `claim::walk::take_row`: what its loop keeps.
 use mathlib.Core.Path.{◌≡◌}
-use Prim.Native.Nat.{◌-◌, ◌≤◌}
 use Rattle.program.specs.Lists.{joined}
 use Rattle.program.specs.Tables.{program_in}
 use Rattle.claim.specs.Frames.{frame_at}
@@ -11,10 +10,6 @@ use Rattle.claim.proofs.walk.take_row.Given as goal
 
 abbrev pub invariant-loop-b : goal.invariant-loop-b
 invariant-loop-b l =
-    (l.b ≤ l.n)
-    × Placed l.to l.text
+    Placed l.to l.text
     × (take_frames (program_in l.t) (joined l.n (frame_at (program_in l.t) l.k l.a)) (progress_of l.text l.initial.to l.initial.w)
     ≡ frames_from (program_in l.t) l.n (frame_at (program_in l.t) l.k l.a) l.b (progress_of l.text l.to l.w))
-
-abbrev pub decreases-loop-b : goal.decreases-loop-b
-decreases-loop-b l = l.n - l.b

@@ -1,5 +1,5 @@
 -- `compare_cases::number::of_bytes` meets its contract. The invariant: what is left says, after n, what all bytes say. Assumes nothing.
-use Rattle.std.proofs.Common.{◌≡◌, ℕ, ◌+◌, ◌*◌, ◌%◌, ◌<◌, ◌≤◌, List, length, get_or, drop, sym, refl, ◌∙◌, add-one, arith, drop_of_length-le, drop-cons}
+use Rattle.std.proofs.Common.{◌≡◌, ℕ, ◌+◌, ◌*◌, ◌%◌, ◌<◌, ◌≤◌, List, length, get_or, drop, sym, ◌∙◌, add-one, rules, drop_of_length-le, drop-cons}
 use Rattle.compare_cases.specs.Records.{bytes_from}
 use Rattle.compare_cases.proofs.number.of_bytes.Goals as goal
 
@@ -13,16 +13,10 @@ at_end : (bytes : List ℕ) (n i : ℕ) → length bytes ≤ i → bytes_from n 
 unfolding bytes_from
 at_end bytes n i l = rw (drop_of_length-le bytes {i = i} l)
 
-pub loop-i-init : goal.loop-i-init
-loop-i-init c = (omega arith, refl)
-
-pub overflow_add-n : goal.overflow_add-n
-overflow_add-n c = omega (arith, c.wide.ensures.1)
-
-pub loop-i-preserved : goal.loop-i-preserved
-loop-i-preserved c =
+pub loop-b-preserved : goal.loop-b-preserved
+loop-b-preserved c =
     let bytes = c.args.bytes.now in
-    (omega arith, c.loop-i.invariant.1 ∙ one_more_lem bytes c.loop-i.n c.loop-i.i (omega arith) ∙ rw c.wide.ensures.0 refl)
+    c.loop-b.invariant ∙ one_more_lem bytes c.loop-b.n c.loop-b.b-index (search rules)
 
 pub returns : goal.returns
-returns c = record { value = sym (c.loop-i.invariant.1 ∙ at_end c.args.bytes.now c.loop-i.n c.loop-i.i (omega arith)) }
+returns c = record { value = sym (c.loop-b.invariant ∙ at_end c.args.bytes.now c.loop-b.n c.loop-b.b-index (search rules)) }

@@ -1,25 +1,26 @@
 -- `raise::exceptions::own` meets its contract. Assumes nothing.
 use Rattle.program.specs.Tables.{program_in}
 use Rattle.slots.specs.Layout.{claim_in}
+use Rattle.raise.proofs.MaskBits.{one_bit}
 use Rattle.raise.proofs.AtOnce.{own_raised, own_none}
 use Rattle.raise.proofs.exceptions.own.Goals as goal
 
 pub returns-then-may : goal.returns-then-may
 returns-then-may c =
     record {
-      raised = λ made few formed lm.
+      raised = λ few formed lm.
           let a = c.args in
-          own_raised (program_in a.t.now) a.m a.pc a.class a.may c.one.result (c.one.ensures.bits few)
+          own_raised (program_in a.sets.now.tables.now) a.m a.pc a.class a.may c.of.result (one_bit c.of.result a.class few c.of.ensures.bits)
           c.if-may.true
           _
           _
-          (c.raised.ensures.raised made formed lm);
+          (c.raised.ensures.raised formed lm);
     }
 
-pub returns : goal.returns
-returns c =
+pub returns-else-may : goal.returns-else-may
+returns-else-may c =
     record {
-      raised = λ made few formed lm.
+      raised = λ few formed lm.
           let a = c.args in
-          own_none (program_in a.t.now) a.m a.pc a.class a.may c.if-may.false (claim_in a.w.now);
+          own_none (program_in a.sets.now.tables.now) a.m a.pc a.class a.may c.if-may.false (claim_in a.w.now);
     }

@@ -5,12 +5,13 @@ use Rattle.slots.specs.Layout.{claim_in}
 use Rattle.raise.proofs.AtOnce.{none_raised}
 use Rattle.raise.proofs.exceptions.raised.Goals as goal
 
-pub returns-then-subset : goal.returns-then-subset
-returns-then-subset c =
+pub returns-then-is_empty : goal.returns-then-is_empty
+returns-then-is_empty c =
     record {
-      raised = λ made formed lm.
+      raised = λ formed lm.
           let a = c.args in
-          none_raised (program_in a.t.now) a.m a.pc a.mask (claim_in a.w.now) (sym c.subset.ensures.value ∙ c.if-subset.true);
+          none_raised (program_in a.sets.now.tables.now) a.m a.pc a.mask (claim_in a.w.now)
+          (sym c.is_empty.ensures.value ∙ c.if-is_empty.true);
     }
 
 pub returns : goal.returns

@@ -7,13 +7,13 @@ use Rattle.raise.proofs.Places.{own_inside}
 use Rattle.raise.proofs.AtOnce.{taken_none, taken_some}
 use Rattle.raise.proofs.exceptions.take_into.Goals as goal
 
-pub returns-then-subset : goal.returns-then-subset
-returns-then-subset c =
+pub returns-then-is_empty : goal.returns-then-is_empty
+returns-then-is_empty c =
     record {
       raised = λ formed lm lp.
           let a = c.args in
           taken_none (program_in a.t.now) a.m a.pc a.to a.mask (claim_in a.w.now)
-          (sym c.subset.ensures.value ∙ c.if-subset.true);
+          (sym c.is_empty.ensures.value ∙ c.if-is_empty.true);
     }
 
 pub returns : goal.returns
@@ -22,6 +22,6 @@ returns c =
       raised = λ formed lm lp.
           let a = c.args in
           let p = program_in a.t.now in
-          taken_some p a.m a.pc a.to a.mask _ _ _ (sym c.subset.ensures.value ∙ c.if-subset.false) (c.carry-new.ensures.raised formed lm lp)
-          (c.join_result.ensures.joined (own_inside p formed (result_at a.m a.to) (lm, lp)));
+          taken_some p a.m a.pc a.to a.mask _ _ _ (sym c.is_empty.ensures.value ∙ c.if-is_empty.false) (c.carry-new.ensures.raised formed lm lp)
+          (c.join.ensures.joined (own_inside p formed (result_at a.m a.to) (lm, lp)));
     }

@@ -1,6 +1,6 @@
--- `raise::masks::from_fields`: what its loops keep, and what falls.
+-- `raise::masks::from_fields`: what its loops keep.
 use mathlib.Core.Path.{◌≡◌}
-use Prim.Native.Nat.{ℕ, ◌-◌, ◌≤◌}
+use Prim.Native.Nat.{ℕ}
 use Rattle.mask.specs.Mask.{has}
 use Rattle.flow.specs.Flows.{some}
 use Rattle.slots.specs.Layout.{claim_in}
@@ -8,7 +8,4 @@ use Rattle.raise.specs.Inside.{field_has}
 use Rattle.raise.proofs.masks.from_fields.Given as goal
 
 abbrev pub invariant-loop-k : goal.invariant-loop-k
-invariant-loop-k l = (l.k ≤ 60) × ((j : ℕ) → has l.all j ≡ some l.k (field_has (claim_in l.w) l.set l.x j))
-
-abbrev pub decreases-loop-k : goal.decreases-loop-k
-decreases-loop-k l = 60 - l.k
+invariant-loop-k l = ((j : ℕ) → has l.all j ≡ some l.k (field_has (claim_in l.w) l.set l.x j))

@@ -14,11 +14,11 @@ returns-then-has c =
           let a = c.args in
           let there = field_of a.k a.x in
           let own = sym c.has.ensures.value ∙ c.if-has.true in
-          raised_when _ (mask_into a.value there) _ _ own (raised_mask a.value there _ _ (c.join_field.ensures.joined (inside own)));
+          raised_when _ (mask_into a.value there) _ _ own (raised_mask a.value there _ _ (c.join.ensures.joined (inside own)));
     }
 
-pub returns : goal.returns
-returns c =
+pub returns-else-has : goal.returns-else-has
+returns-else-has c =
     record {
       raised = λ inside.
           let a = c.args in

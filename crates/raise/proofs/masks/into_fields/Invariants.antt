@@ -1,7 +1,7 @@
--- `raise::masks::into_fields`: what its loops keep, and what falls.
+-- `raise::masks::into_fields`: what its loops keep.
 use mathlib.Core.Path.{◌≡◌}
 use mathlib.Core.Bool.{true}
-use Prim.Native.Nat.{ℕ, ◌-◌, ◌≤◌, ◌<◌}
+use Prim.Native.Nat.{ℕ, ◌<◌}
 use Rattle.mask.specs.Mask.{has}
 use Rattle.flow.specs.Claim.{field_of}
 use Rattle.flow.specs.Flows.{each}
@@ -12,9 +12,5 @@ use Rattle.raise.proofs.masks.into_fields.Given as goal
 
 abbrev pub invariant-loop-k : goal.invariant-loop-k
 invariant-loop-k l =
-    (l.k ≤ 60)
-    × (((i : ℕ) → has l.set i ≡ true → place_of (field_of i l.x) < claim_size)
+    (((i : ℕ) → has l.set i ≡ true → place_of (field_of i l.x) < claim_size)
     → Raised (each l.k (into_field l.set l.x l.value)) (claim_in l.initial.w) (claim_in l.w))
-
-abbrev pub decreases-loop-k : goal.decreases-loop-k
-decreases-loop-k l = 60 - l.k

@@ -34,13 +34,13 @@ returns c =
           let a = c.args in
           let p = program_in a.t.now in
           let m = a.m in
-          let n = c.at_most.result in
+          let n = c.min.result in
           let count : n ≡ min (min (registers p m) 16) (min (claim_size - row_of m a.pc) (claim_size - row_of m a.to)) =
-          c.at_most.ensures.value
+          c.min.ensures
           ∙ rw (
-            c.at_most-n.ensures.value,
+            c.min-n.ensures,
             c.registers.ensures.value,
-            c.at_most-room.ensures.value,
+            c.min-room.ensures,
             c.row-from.ensures.value,
             c.row-into.ensures.value,
           ) in

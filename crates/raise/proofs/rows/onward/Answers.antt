@@ -17,5 +17,5 @@ returns c =
           let there = result_at a.m a.to in
           raised_both (carried p a.m a.pc a.to) (here ⊆ there) _ _ _
           (c.carry-new.ensures.raised formed lm lp)
-          (raised_into here there _ _ (rw c.result-mask.ensures.value at (c.join_result.ensures.joined (own_inside p formed there (lm, lp)))));
+          (raised_into here there _ _ (rw c.mask-mask.ensures.value at (c.join.ensures.joined (own_inside p formed there (lm, lp)))));
     }

@@ -1,5 +1,4 @@
--- `raise::rows::pass_arguments` meets its contract. The loop's invariant: the arguments from the first asked to the one before the next
--- are passed. Assumes nothing.
+-- `raise::rows::pass_arguments` meets its contract. Assumes nothing.
 use mathlib.Core.Path.{◌≡◌, ap}
 use Prim.Native.Nat.{ℕ, ◌+◌, ◌-◌, ◌<◌}
 use native.Mathlib.Numerals.{add-one}
@@ -19,7 +18,7 @@ loop-i-init c =
     let a = c.args in
     let none : a.from - a.from ≡ 0 = omega arith in
     let g : ℕ → Flows = λ k. argument_into (program_in a.t.now) a.m a.pc a.first a.q (a.from + k) in
-    (omega arith, omega arith, λ formed lq same. rw none (raised_none g (claim_in a.w.now)))
+    record { few = omega arith; passed = λ formed lq same. rw none (raised_none g (claim_in a.w.now)) }
 
 pub loop-i-preserved : goal.loop-i-preserved
 loop-i-preserved c =
@@ -32,19 +31,19 @@ loop-i-preserved c =
     let more : i + 1 - a.from ≡ n + 1 = omega arith in
     let number : a.from + n ≡ i = omega arith in
     let here = register_at a.m a.pc (a.first + i) in
-    let there = register_at q 0 (parameter p q i) in (
-      omega arith,
-      omega arith,
-      λ formed lq same.
+    let there = register_at q 0 (parameter p q i) in
+    record {
+      few = omega arith;
+      passed = λ formed lq same.
           let f = formed.methods q lq in
           let within : parameter p q i < registers p q = omega (arith, f.arguments_to, same) in
           let inside = own_inside p formed there (lq, omega (arith, f.code_from), within) in
           let place : register_at q 0 (c.locals-base.result + i) ≡ there = ap (λ (x : ℕ). register_at q 0 (x + i)) c.locals-base.ensures.value in
-          let joined = rw place at c.join_register-more.ensures.joined in
+          let joined = rw place at c.join.ensures.joined in
           rw (more, add-one n)
-          (raised_more n g _ _ _ (c.loop-i.invariant.2 formed lq same)
-          (rw number (raised_into here there _ _ (rw c.register-given.ensures.value at (joined inside))))),
-    )
+          (raised_more n g _ _ _ (c.loop-i.invariant.passed formed lq same)
+          (rw number (raised_into here there _ _ (rw c.mask-given.ensures.value at (joined inside)))));
+    }
 
 pub returns-then-q-lt16 : goal.returns-then-q-lt16
 returns-then-q-lt16 c =
@@ -52,7 +51,7 @@ returns-then-q-lt16 c =
       raised = λ formed lq same.
           let a = c.args in
           let all : c.loop-i.i - a.from ≡ a.count - a.from = omega arith in
-          rw all at (c.loop-i.invariant.2 formed lq same);
+          rw all at (c.loop-i.invariant.passed formed lq same);
     }
 
 pub returns-else-q-lt16 : goal.returns-else-q-lt16
@@ -61,5 +60,5 @@ returns-else-q-lt16 c =
       raised = λ formed lq same.
           let a = c.args in
           let all : c.loop-i.i - a.from ≡ a.count - a.from = omega arith in
-          rw all at (c.loop-i.invariant.2 formed lq same);
+          rw all at (c.loop-i.invariant.passed formed lq same);
     }

@@ -1,5 +1,4 @@
--- `raise::start::all_fields`: what its loops keep, and what falls.
-use Prim.Native.Nat.{◌-◌, ◌≤◌}
+-- `raise::start::all_fields`: what its loops keep.
 use Rattle.program.specs.Tables.{program_in}
 use Rattle.reader.specs.Formed.{Formed}
 use Rattle.flow.specs.Flows.{each}
@@ -9,8 +8,5 @@ use Rattle.order.specs.Raised.{Raised}
 use Rattle.raise.proofs.start.all_fields.Given as goal
 
 abbrev pub invariant-loop-k : goal.invariant-loop-k
-invariant-loop-k l = (l.k ≤ l.n) × (Formed (program_in l.t)
+invariant-loop-k l = (Formed (program_in l.t)
     → Raised (each l.k (class_fields (program_in l.t))) (claim_in l.initial.w) (claim_in l.w))
-
-abbrev pub decreases-loop-k : goal.decreases-loop-k
-decreases-loop-k l = l.n - l.k

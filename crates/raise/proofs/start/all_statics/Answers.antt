@@ -1,4 +1,4 @@
--- `raise::start::all_statics` meets its contract. The loop's invariant: the statics before the next have zero's bit. Assumes nothing.
+-- `raise::start::all_statics` meets its contract. Assumes nothing.
 -- zero goes into a static
 use mathlib.Core.Path.{◌≡◌}
 use native.Mathlib.Numerals.{add-one}
@@ -14,26 +14,24 @@ use Rattle.raise.proofs.start.all_statics.Invariants.{zero_static}
 use Rattle.raise.proofs.start.all_statics.Goals as goal
 
 pub loop-x-init : goal.loop-x-init
-loop-x-init c = (omega arith, λ formed. raised_none zero_static (claim_in c.args.w.now))
+loop-x-init c = (λ formed. raised_none zero_static (claim_in c.args.w.now))
 
 pub loop-x-preserved : goal.loop-x-preserved
 loop-x-preserved c =
     let a = c.args in
     let x = c.loop-x.x in
-    let p = program_in a.t.now in (
-      omega arith,
-      λ formed.
-          let inside = own_inside p formed (static_of x) (omega (arith, c.static_count-n.ensures.value)) in
-          rw (add-one x)
-          (raised_more x zero_static _ _ _ (c.loop-x.invariant.1 formed)
-          (raised_one zero_bit c.one.result (static_of x) _ _ (c.one.ensures.bits (omega arith)) (c.join_static.ensures.joined inside))),
-    )
+    let p = program_in a.t.now in
+    (λ formed.
+    let inside = own_inside p formed (static_of x) (omega (arith, c.static_count-x-end.ensures.value)) in
+    rw (add-one x)
+    (raised_more x zero_static _ _ _ (c.loop-x.invariant formed)
+    (raised_one zero_bit c.of.result (static_of x) _ _ (omega arith) c.of.ensures.bits (c.join.ensures.joined inside))))
 
 pub returns : goal.returns
 returns c =
     record {
       raised = λ formed.
           let a = c.args in
-          let all : c.loop-x.x ≡ (program_in a.t.now).statics = omega (arith, c.static_count-n.ensures.value) in
-          rw all at (c.loop-x.invariant.1 formed);
+          let all : c.loop-x.x ≡ (program_in a.t.now).statics = omega (arith, c.static_count-x-end.ensures.value) in
+          rw all at (c.loop-x.invariant formed);
     }

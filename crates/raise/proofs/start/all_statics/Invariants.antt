@@ -1,5 +1,5 @@
--- `raise::start::all_statics`: what its loops keep, and what falls.
-use Prim.Native.Nat.{ℕ, ◌-◌, ◌≤◌}
+-- `raise::start::all_statics`: what its loops keep.
+use Prim.Native.Nat.{ℕ}
 use Rattle.mask.specs.Mask.{zero_bit}
 use Rattle.program.specs.Tables.{program_in}
 use Rattle.reader.specs.Formed.{Formed}
@@ -13,7 +13,4 @@ abbrev pub zero_static : ℕ → Flows
 zero_static x = zero_bit ∈ static_of x
 
 abbrev pub invariant-loop-x : goal.invariant-loop-x
-invariant-loop-x l = (l.x ≤ l.n) × (Formed (program_in l.t) → Raised (each l.x zero_static) (claim_in l.initial.w) (claim_in l.w))
-
-abbrev pub decreases-loop-x : goal.decreases-loop-x
-decreases-loop-x l = l.n - l.x
+invariant-loop-x l = (Formed (program_in l.t) → Raised (each l.x zero_static) (claim_in l.initial.w) (claim_in l.w))

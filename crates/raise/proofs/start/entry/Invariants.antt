@@ -1,5 +1,5 @@
--- `raise::start::entry`: what its loops keep, and what falls.
-use Prim.Native.Nat.{ℕ, ◌-◌, ◌≤◌, ◌<◌}
+-- `raise::start::entry`: what its loops keep.
+use Prim.Native.Nat.{ℕ, ◌<◌}
 use Rattle.mask.specs.Mask.{zero_bit}
 use Rattle.program.specs.Program.{method_count}
 use Rattle.program.specs.Tables.{program_in}
@@ -15,8 +15,5 @@ zero_at m r = zero_bit ∈ register_at m 0 r
 
 abbrev pub invariant-loop-r : goal.invariant-loop-r
 invariant-loop-r l =
-    (l.r ≤ l.n) × (Formed (program_in l.t) → l.m < method_count (program_in l.t)
+    (Formed (program_in l.t) → l.m < method_count (program_in l.t)
     → Raised (each l.r (zero_at l.m)) (claim_in l.initial.w) (claim_in l.w))
-
-abbrev pub decreases-loop-r : goal.decreases-loop-r
-decreases-loop-r l = l.n - l.r

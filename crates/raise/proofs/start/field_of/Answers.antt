@@ -21,12 +21,12 @@ returns-then-has_field c =
           let there = field_of a.k a.x in
           let own = sym c.has_field.ensures.value ∙ c.if-has_field.true in
           raised_when _ (zero_bit ∈ there) _ _ own
-          (raised_one zero_bit c.one.result there _ _ (c.one.ensures.bits (omega arith))
-          (c.join_field.ensures.joined (own_inside p formed there (lk, field_exists p a.k a.x own, own))));
+          (raised_one zero_bit c.of.result there _ _ (omega arith) c.of.ensures.bits
+          (c.join.ensures.joined (own_inside p formed there (lk, field_exists p a.k a.x own, own))));
     }
 
-pub returns : goal.returns
-returns c =
+pub returns-else-has_field : goal.returns-else-has_field
+returns-else-has_field c =
     record {
       raised = λ formed lk.
           let a = c.args in

@@ -1,5 +1,5 @@
--- `raise::start::fields_of`: what its loops keep, and what falls.
-use Prim.Native.Nat.{◌-◌, ◌≤◌, ◌<◌}
+-- `raise::start::fields_of`: what its loops keep.
+use Prim.Native.Nat.{◌<◌}
 use Rattle.program.specs.Program.{class_count}
 use Rattle.program.specs.Tables.{program_in}
 use Rattle.reader.specs.Formed.{Formed}
@@ -11,9 +11,5 @@ use Rattle.raise.proofs.start.fields_of.Given as goal
 
 abbrev pub invariant-loop-x : goal.invariant-loop-x
 invariant-loop-x l =
-    (l.x ≤ l.n)
-    × (Formed (program_in l.t) → l.k < class_count (program_in l.t)
+    (Formed (program_in l.t) → l.k < class_count (program_in l.t)
     → Raised (each l.x (zero_field (program_in l.t) l.k)) (claim_in l.initial.w) (claim_in l.w))
-
-abbrev pub decreases-loop-x : goal.decreases-loop-x
-decreases-loop-x l = l.n - l.x

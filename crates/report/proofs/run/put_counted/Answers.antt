@@ -1,6 +1,6 @@
 -- `report::run::put_counted` meets its contract. Assumes nothing.
-use Rattle.page.proofs.Puts.{put_then}
+use Rattle.page.proofs.OnPages.{◌⨾◌}
 use Rattle.report.proofs.run.put_counted.Goals as goal
 
 pub returns : goal.returns
-returns c = record { put = put_then c.put-next.ensures.put c.put_count.ensures.put }
+returns c = record { put = c.put.ensures.put ⨾ c.put_count.ensures.put }

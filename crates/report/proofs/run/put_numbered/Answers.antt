@@ -1,9 +1,6 @@
 -- `report::run::put_numbered` meets its contract. Assumes nothing.
-use Rattle.page.proofs.Puts.{put_then}
+use Rattle.page.proofs.OnPages.{◌⨾◌}
 use Rattle.report.proofs.run.put_numbered.Goals as goal
 
 pub returns : goal.returns
-returns c = record {
-  put = put_then (put_then c.put-first.ensures.put c.put_two-second.ensures.put)
-      (put_then c.put_byte-third.ensures.put c.put_count.ensures.put);
-}
+returns c = record { put = c.put.ensures.put ⨾ c.two.ensures.put ⨾ (c.byte.ensures.put ⨾ c.put_count.ensures.put) }

@@ -1,4 +1,6 @@
 -- `response::stepped::of_run` meets its contract. Assumes nothing.
+use Rattle.std.proofs.Common.{ℕ, sym}
+use Rattle.std.proofs.lemmas.List.{length-replicate}
 use Rattle.response.proofs.Longest.{responded}
 use Rattle.response.proofs.stepped.of_run.Goals as goal
 
@@ -6,11 +8,11 @@ pub returns : goal.returns
 returns c =
     let start = c.args in
     let there =
-    responded start.panel.now start.table.now start.n _ c.frames-fs.result c.objects-os.result c.statics-ss.result c.step_in-o.result _ _ _ _
+    responded start.panel.now start.table.now start.n _ _ _ _ c.step_in-o.result _ _ _ _
     (record {
-      frames_lent = c.frames-fs.ensures.length;
-      objects_lent = c.objects-os.ensures.length;
-      statics_lent = c.statics-ss.ensures.length;
+      frames_lent = sym (length-replicate {A = ℕ} 608 0);
+      objects_lent = sym (length-replicate {A = ℕ} 4352 0);
+      statics_lent = sym (length-replicate {A = ℕ} 16 0);
       number = c.step_in-o.ensures.answer.0;
       values = c.step_in-o.ensures.answer.1;
       frames = c.step_in-o.ensures.memory.0;

@@ -16,14 +16,14 @@ pub loop-k-init : goal.loop-k-init
 loop-k-init c =
     let a = c.args in
     let p = program_in a.t.now in
-    start (λ i. ltb i (class_count p) && leads p a.q i)
+    start (λ i. ltb i (class_count p) && leads p a.q i) c.empty-set.result c.empty-set.ensures.bits
 
 pub loop-k-preserved : goal.loop-k-preserved
 loop-k-preserved c =
     let a = c.args in
     let p = program_in a.t.now in
     let k = c.loop-k.k in
-    let l : k < class_count p = omega (arith, c.class_count-n.ensures.value) in
+    let l : k < class_count p = omega (arith, c.class_count-k-end.ensures.value) in
     let few : k < 64 = omega (arith, classes_limit a.t.now) in
     added (λ i. ltb i (class_count p) && leads p a.q i) c.loop-k.set c.add-set.result k c.is_leading.result few
     (c.is_leading.ensures.value
@@ -45,5 +45,5 @@ returns c = record {
   bits = λ k.
       let a = c.args in
       let p = program_in a.t.now in
-      c.loop-k.invariant k ∙ finish (class_count p) c.loop-k.k k (leads p a.q k) (omega (arith, c.class_count-n.ensures.value));
+      c.loop-k.invariant k ∙ finish (class_count p) c.loop-k.k k (leads p a.q k) (omega (arith, c.class_count-k-end.ensures.value));
 }

@@ -1,7 +1,7 @@
--- `sets::dispatch::leading_set`: what its loops keep, and what falls.
+-- `sets::dispatch::leading_set`: what its loop keeps.
 use mathlib.Core.Path.{◌≡◌}
 use mathlib.Core.Bool.{◌&&◌}
-use Prim.Native.Nat.{ℕ, ◌-◌}
+use Prim.Native.Nat.{ℕ}
 use lib.Dec.{ltb}
 use Rattle.mask.specs.Mask.{has}
 use Rattle.program.specs.Program.{class_count}
@@ -12,6 +12,3 @@ use Rattle.sets.proofs.dispatch.leading_set.Given as goal
 abbrev pub invariant-loop-k : goal.invariant-loop-k
 invariant-loop-k l =
     (i : ℕ) → has l.set i ≡ ltb i l.k && (ltb i (class_count (program_in l.t)) && leads (program_in l.t) l.q i)
-
-abbrev pub decreases-loop-k : goal.decreases-loop-k
-decreases-loop-k l = l.n - l.k

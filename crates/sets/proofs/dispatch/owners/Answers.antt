@@ -6,31 +6,28 @@ use Rattle.program.specs.Program.{method_count}
 use Rattle.program.specs.Tables.{program_in}
 use Rattle.search.specs.Search.{answers}
 use Rattle.flow.specs.Flows.{some}
-use Rattle.mask.proofs.Sets.{no_bit}
 use Rattle.sets.proofs.Named.{owner_more}
 use Rattle.sets.proofs.dispatch.owners.Goals as goal
 
 pub loop-m-init : goal.loop-m-init
-loop-m-init c = (omega arith, λ k l. no_bit k)
+loop-m-init c = λ k l. c.empty-set.ensures.bits k
 
 pub loop-m-preserved : goal.loop-m-preserved
 loop-m-preserved c =
-    let a = c.args in (
-      omega arith,
-      owner_more (program_in a.t.now) a.name a.count c.loop-m.m c.loop-m.set c.add-set.result
-          c.method_class.result
-          c.is_named.result
-          c.method_class.ensures.value
-          c.is_named.ensures.value
-          c.add-set.ensures.bits
-          c.loop-m.invariant.1,
-    )
+    let a = c.args in
+    owner_more (program_in a.t.now) a.name a.count c.loop-m.m c.loop-m.set c.add-set.result
+    c.method_class.result
+    c.is_named.result
+    c.method_class.ensures.value
+    c.is_named.ensures.value
+    c.add-set.ensures.bits
+    c.loop-m.invariant
 
 pub returns : goal.returns
 returns c = record {
   bits = λ k l.
       let a = c.args in
       let p = program_in a.t.now in
-      let all : c.loop-m.m ≡ method_count p = omega (arith, c.method_count-n.ensures.value) in
-      c.loop-m.invariant.1 k l ∙ ap (λ (m : ℕ). some m (answers p k a.name a.count)) all;
+      let all : c.loop-m.m ≡ method_count p = omega (arith, c.method_count-m-end.ensures.value) in
+      c.loop-m.invariant k l ∙ ap (λ (m : ℕ). some m (answers p k a.name a.count)) all;
 }

@@ -1,6 +1,6 @@
--- `sets::dispatch::owners`: what its loops keep, and what falls.
+-- `sets::dispatch::owners`: what its loop keeps.
 use mathlib.Core.Path.{◌≡◌}
-use Prim.Native.Nat.{ℕ, ◌-◌, ◌<◌, ◌≤◌}
+use Prim.Native.Nat.{ℕ, ◌<◌}
 use Rattle.mask.specs.Mask.{has}
 use Rattle.program.specs.Tables.{program_in}
 use Rattle.search.specs.Search.{answers}
@@ -9,7 +9,4 @@ use Rattle.sets.proofs.dispatch.owners.Given as goal
 
 abbrev pub invariant-loop-m : goal.invariant-loop-m
 invariant-loop-m l =
-    (l.m ≤ l.n) × ((k : ℕ) → k < 64 → has l.set k ≡ some l.m (answers (program_in l.t) k l.name l.count))
-
-abbrev pub decreases-loop-m : goal.decreases-loop-m
-decreases-loop-m l = l.n - l.m
+    (k : ℕ) → k < 64 → has l.set k ≡ some l.m (answers (program_in l.t) k l.name l.count)

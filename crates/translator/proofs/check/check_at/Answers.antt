@@ -7,82 +7,66 @@ use Rattle.units.proofs.Texts.{unit_count}
 use Rattle.translator.proofs.Checking.{cut_short, not_taken, too_many, well}
 use Rattle.translator.proofs.check.check_at.Goals as goal
 
-pub overflow_sub-text : goal.overflow_sub-text
-overflow_sub-text c =
-    omega (arith, c.requires.1)
-
-pub returns-then-n-text : goal.returns-then-n-text
-returns-then-n-text c =
+pub returns-then-n-count : goal.returns-then-n-count
+returns-then-n-count c =
     let a = c.args in
-    let us = units_of a.text.now in
-    let size = unit_count a.text.now in
-    let at = a.here.place in
-    let k = a.here.address in
-    record { value = cut_short us at k (omega (arith, c.requires.1)) (omega (arith, c.requires.1, c.requires.2)) }
-
-pub returns-then-k-ge32 : goal.returns-then-k-ge32
-returns-then-k-ge32 c =
-    let a = c.args in
-    let us = units_of a.text.now in
-    let size = unit_count a.text.now in
-    let at = a.here.place in
-    let k = a.here.address in
+    let size = unit_count a.line.text.now in
+    let e = c.count.ensures.value in
     record {
-      value = too_many us at k (omega (arith, c.requires.1)) (omega (arith, c.requires.1, c.requires.2)) (plain c.in-Plain.p)
-          (sym c.in-Plain.is ∙ c.requires.3) refl c.if-k-ge32.true;
+      value = cut_short (units_of a.line.text.now) a.here.place a.here.address (omega (arith, c.requires.0)) (omega (arith, c.requires.0, c.requires.1));
     }
-
-pub plain_at-requires : goal.plain_at-requires
-plain_at-requires c =
-    (c.requires.0, c.requires.1)
-
-pub returns-then-k-ge32-2 : goal.returns-then-k-ge32-2
-returns-then-k-ge32-2 c =
-    let a = c.args in
-    let us = units_of a.text.now in
-    let size = unit_count a.text.now in
-    let at = a.here.place in
-    let k = a.here.address in
-    record {
-      value = too_many us at k (omega (arith, c.requires.1)) (omega (arith, c.requires.1, c.requires.2)) (branch c.in-Branch.b)
-          (sym c.in-Branch.is ∙ c.requires.3) refl c.if-k-ge32-2.true;
-    }
-
-pub branch_at-requires : goal.branch_at-requires
-branch_at-requires c =
-    (c.requires.0, c.requires.1, rw c.in-Branch.is at c.requires.4)
 
 pub returns-in-NotTaken : goal.returns-in-NotTaken
 returns-in-NotTaken c =
     let a = c.args in
-    let us = units_of a.text.now in
-    let size = unit_count a.text.now in
-    let at = a.here.place in
-    let k = a.here.address in
-    record { value = not_taken us at k (omega (arith, c.requires.1)) (omega (arith, c.requires.1, c.requires.2)) NotTaken (sym c.in-NotTaken.is ∙ c.requires.3) refl }
-
-pub returns-else-k-ge32 : goal.returns-else-k-ge32
-returns-else-k-ge32 c =
-    let a = c.args in
-    let us = units_of a.text.now in
-    let size = unit_count a.text.now in
-    let at = a.here.place in
-    let k = a.here.address in
+    let size = unit_count a.line.text.now in
+    let e = c.count.ensures.value in
     record {
-      value = c.plain_at.ensures.value
-          ∙ well us at k (omega (arith, c.requires.1)) (omega (arith, c.requires.1, c.requires.2)) (plain c.in-Plain.p)
-          (sym c.in-Plain.is ∙ c.requires.3) refl c.if-k-ge32.false;
+      value = not_taken (units_of a.line.text.now) a.here.place a.here.address (omega (arith, c.requires.0)) (omega (arith, c.requires.0, c.requires.1))
+          NotTaken (sym c.in-NotTaken.is ∙ c.requires.2) refl;
     }
 
-pub returns-else-k-ge32-2 : goal.returns-else-k-ge32-2
-returns-else-k-ge32-2 c =
+pub returns-then-here-ge32 : goal.returns-then-here-ge32
+returns-then-here-ge32 c =
     let a = c.args in
-    let us = units_of a.text.now in
-    let size = unit_count a.text.now in
-    let at = a.here.place in
-    let k = a.here.address in
+    let size = unit_count a.line.text.now in
+    let e = c.count.ensures.value in
+    record {
+      value = too_many (units_of a.line.text.now) a.here.place a.here.address (omega (arith, c.requires.0)) (omega (arith, c.requires.0, c.requires.1))
+          (plain c.in-Plain.p) (sym c.in-Plain.is ∙ c.requires.2) refl c.if-here-ge32.true;
+    }
+
+pub returns-then-here-ge32-2 : goal.returns-then-here-ge32-2
+returns-then-here-ge32-2 c =
+    let a = c.args in
+    let size = unit_count a.line.text.now in
+    let e = c.count.ensures.value in
+    record {
+      value = too_many (units_of a.line.text.now) a.here.place a.here.address (omega (arith, c.requires.0)) (omega (arith, c.requires.0, c.requires.1))
+          (branch c.in-Branch.b) (sym c.in-Branch.is ∙ c.requires.2) refl c.if-here-ge32-2.true;
+    }
+
+pub branch_at-requires : goal.branch_at-requires
+branch_at-requires c = (c.requires.0, rw c.in-Branch.is at c.requires.3)
+
+pub returns-else-here-ge32 : goal.returns-else-here-ge32
+returns-else-here-ge32 c =
+    let a = c.args in
+    let size = unit_count a.line.text.now in
+    let e = c.count.ensures.value in
+    record {
+      value = c.plain_at.ensures.value
+          ∙ well (units_of a.line.text.now) a.here.place a.here.address (omega (arith, c.requires.0)) (omega (arith, c.requires.0, c.requires.1))
+          (plain c.in-Plain.p) (sym c.in-Plain.is ∙ c.requires.2) refl c.if-here-ge32.false;
+    }
+
+pub returns-else-here-ge32-2 : goal.returns-else-here-ge32-2
+returns-else-here-ge32-2 c =
+    let a = c.args in
+    let size = unit_count a.line.text.now in
+    let e = c.count.ensures.value in
     record {
       value = c.branch_at.ensures.value
-          ∙ well us at k (omega (arith, c.requires.1)) (omega (arith, c.requires.1, c.requires.2)) (branch c.in-Branch.b)
-          (sym c.in-Branch.is ∙ c.requires.3) refl c.if-k-ge32-2.false;
+          ∙ well (units_of a.line.text.now) a.here.place a.here.address (omega (arith, c.requires.0)) (omega (arith, c.requires.0, c.requires.1))
+          (branch c.in-Branch.b) (sym c.in-Branch.is ∙ c.requires.2) refl c.if-here-ge32-2.false;
     }

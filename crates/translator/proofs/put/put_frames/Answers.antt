@@ -1,9 +1,11 @@
 -- `translator::put::put_frames` meets its contract. Assumes nothing.
+use Rattle.std.proofs.Common.{rules}
 use mathlib.Core.Path.{sym, ap}
 use native.Mathlib.Omega.{arith}
 use borrow.Author.Tests.{lt-ltb, le-ltb}
 use Rattle.output.specs.declared.Output.TheVariants.{Written}
-use Rattle.page.proofs.Puts.{whole, put_length}
+use Rattle.page.proofs.Puts.{whole}
+use Rattle.page.proofs.OnPages.{lent_back}
 use Rattle.translator.proofs.FrameText.{first_length}
 use Rattle.translator.proofs.put.put_frames.Goals as goal
 
@@ -15,9 +17,6 @@ returns-then-memory-count c =
     let short = lt-ltb _ _ (rw (← size) at c.if-memory-count.true) in
     record { answer = rw short; memory = rw short }
 
-pub shape_of-memory : goal.shape_of-memory
-shape_of-memory c = put_length c.put_lines.ensures.put
-
 pub returns : goal.returns
 returns c =
     let a = c.args in
@@ -25,4 +24,5 @@ returns c =
     (omega (arith, c.requires.0, c.requires.1)) in
     let room = rw (← size) at c.if-memory-count.false in
     let fits = le-ltb _ _ room in
-    record { answer = rw fits (ap Written (sym size)); memory = rw fits (whole c.put_lines.ensures.put room).1 }
+    let all = whole (lent_back c.put_lines.ensures.put (search rules)) room in
+    record { answer = rw fits (ap Written (sym size)); memory = rw fits all.1 }

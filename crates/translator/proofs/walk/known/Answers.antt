@@ -1,36 +1,27 @@
 -- `translator::walk::known` meets its contract. Assumes nothing.
-use mathlib.Core.Path.{refl, sym, ◌∙◌}
-use native.Mathlib.Numerals.{add-one}
-use native.Mathlib.Omega.{arith}
-use borrow.Author.Tests.{eq-eqb, ne_eqb}
-use Rattle.translator.proofs.KnownStarts.{next_known, all_known}
+use mathlib.Core.Path.{◌≡◌, sym, ◌∙◌}
+use lib.ListN.{take}
+use Rattle.std.specs.Prelude.{position}
+use Rattle.std.proofs.Common.{rules, tests}
+use Rattle.std.proofs.lemmas.Iterator.{YieldsList-from_slice}
+use Rattle.std.proofs.lemmas.Iterator.Search.{position_from_yields_List}
+use Rattle.translator.proofs.KnownStarts.{is_there, found_start, no_start}
 use Rattle.translator.proofs.walk.known.Goals as goal
 
-pub loop-j-init : goal.loop-j-init
-loop-j-init c = (omega arith, refl)
-
-pub bounds-starts-j : goal.bounds-starts-j
-bounds-starts-j c = omega (arith, c.requires)
-
-pub returns-then-starts-j : goal.returns-then-starts-j
-returns-then-starts-j c =
+pub returns-in-Some : goal.returns-in-Some
+returns-in-Some c =
     let a = c.args in
-    let starts = a.starts.now in
-    let k = a.here.address in
-    let j = c.loop-j.j in
-    let next = next_known starts k j (omega arith) c.requires in
-    record { value = sym (c.loop-j.invariant.1 ∙ rw (next, eq-eqb _ _ c.if-starts-j.true)) }
+    let xs = take a.here.address a.starts.now in
+    let found : c.position.result ≡ position (is_there a.here a.place) xs =
+    position_from_yields_List (is_there a.here a.place) _ _ c.position.result c.position.ensures.ran
+    (YieldsList-from_slice _ c.iter.ensures.rest) (λ x b q k. search (rules, tests)) in
+    record { value = found_start a.here a.place xs c.in-Some.address (sym found ∙ c.in-Some.is) }
 
-pub loop-j-preserved : goal.loop-j-preserved
-loop-j-preserved c =
+pub returns-in-None : goal.returns-in-None
+returns-in-None c =
     let a = c.args in
-    let starts = a.starts.now in
-    let k = a.here.address in
-    let j = c.loop-j.j in
-    let next = next_known starts k j (omega arith) c.requires in
-    (omega arith, c.loop-j.invariant.1 ∙ rw (next, ne_eqb _ _ c.if-starts-j.false, add-one j))
-
-pub returns : goal.returns
-returns c =
-    let a = c.args in
-    record { value = sym (c.loop-j.invariant.1 ∙ rw (all_known a.starts.now a.here.address c.loop-j.j (omega arith))) }
+    let xs = take a.here.address a.starts.now in
+    let found : c.position.result ≡ position (is_there a.here a.place) xs =
+    position_from_yields_List (is_there a.here a.place) _ _ c.position.result c.position.ensures.ran
+    (YieldsList-from_slice _ c.iter.ensures.rest) (λ x b q k. search (rules, tests)) in
+    record { value = no_start a.here a.place xs (sym found ∙ c.in-None.is) }

@@ -1,5 +1,5 @@
 -- `wording::put::put_address` meets its contract. Assumes nothing.
-use Rattle.page.proofs.Puts.{put_then, put_as}
+use Rattle.page.proofs.OnPages.{◌⨾◌, on_as}
 use Rattle.program.specs.Tables.{program_in}
 use Rattle.slots.specs.Layout.{claim_in}
 use Rattle.wording.proofs.Texts.{address_line}
@@ -8,10 +8,11 @@ use Rattle.wording.proofs.put.put_address.Goals as goal
 pub returns : goal.returns
 returns c =
     let a = c.args in
-    let result = rw c.result.ensures.value at c.put_mask-fifth.ensures.put in
-    let front = put_then (put_then c.put_two-first.ensures.put c.put_two-second.ensures.put) c.put_two-third.ensures.put in
     record {
-      put = put_as
-          (put_then (put_then (put_then front c.put_registers-fourth.ensures.put) result) c.put_byte.ensures.put)
+      put = on_as
+          (c.put_numbers.ensures.put
+          ⨾ c.put_registers.ensures.put
+          ⨾ (rw c.mask.ensures.value at c.put_mask.ensures.put)
+          ⨾ c.byte.ensures.put)
           (address_line (claim_in a.w.now) (program_in a.t.now) a.m a.pc);
     }

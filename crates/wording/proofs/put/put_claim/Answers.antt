@@ -1,5 +1,6 @@
 -- `wording::put::put_claim` meets its contract. Assumes nothing.
-use Rattle.page.proofs.Puts.{put_then, put_as}
+use Rattle.std.proofs.Common.{rules}
+use Rattle.page.proofs.OnPages.{◌⨾◌, on_as, lent_back}
 use Rattle.program.specs.Tables.{program_in}
 use Rattle.slots.specs.Layout.{claim_in}
 use Rattle.wording.proofs.Texts.{parts_line}
@@ -7,10 +8,6 @@ use Rattle.wording.proofs.put.put_claim.Goals as goal
 
 pub returns : goal.returns
 returns c =
-    let a = c.args in
-    let front = put_then (put_then c.put_part-fields.ensures.put c.put_part-statics.ensures.put) c.put_part-returned.ensures.put in
-    record {
-      put = put_as
-          (put_then (put_then front c.put_part-leaving.ensures.put) c.put_part.ensures.put)
-          (parts_line (claim_in a.w.now) (program_in a.t.now));
-    }
+    let all = c.put_part.ensures.put ⨾ c.put_part-2.ensures.put ⨾ c.put_part-3.ensures.put ⨾ c.put_part-4.ensures.put ⨾ c.put_part-5.ensures.put in
+    let text = on_as all (parts_line (claim_in c.args.w.now) (program_in c.args.t.now)) in
+    record { put = lent_back text (search rules); words = search rules }

@@ -1,13 +1,7 @@
 -- `wording::put::put_field` meets its contract. Assumes nothing.
-use mathlib.Core.Path.{sym, ◌∙◌}
-use Rattle.page.proofs.Puts.{put_none}
+use Rattle.std.proofs.Common.{sym, ◌∙◌}
+use Rattle.page.proofs.OnPages.{on_none}
 use Rattle.wording.proofs.put.put_field.Goals as goal
 
-pub returns-then-has_field : goal.returns-then-has_field
-returns-then-has_field c = record {
-  put = rw (sym c.has_field.ensures.value ∙ c.if-has_field.true)
-      (rw c.field.ensures.value at c.put_long.ensures.put);
-}
-
-pub returns : goal.returns
-returns c = record { put = rw (sym c.has_field.ensures.value ∙ c.if-has_field.false) (put_none _ _) }
+pub returns-else-has_field : goal.returns-else-has_field
+returns-else-has_field c = record { put = rw (sym c.has_field.ensures.value ∙ c.if-has_field.false) (on_none _) }

@@ -1,41 +1,25 @@
--- `wording::size::part_size` meets its contract. The loop's invariant: the size is that of the rows before the next, which
--- are at most 131,296 bytes each. Assumes nothing.
-use mathlib.Core.Path.{◌≡◌, ◌∙◌}
-use native.Mathlib.Omega.{arith}
+-- `wording::size::part_size` meets its contract: a row has at most 131,296 bytes. Assumes nothing.
+use Rattle.std.proofs.Common.{◌≡◌, ◌∙◌, arith}
 use Rattle.program.specs.Tables.{program_in}
 use Rattle.claim.specs.Frames.{outer}
 use Rattle.wording.specs.Inside.{row_due}
 use Rattle.wording.proofs.Lengths.{size_more, outer_few, part_rows}
 use Rattle.wording.proofs.size.part_size.Goals as goal
 
-pub loop-a-init : goal.loop-a-init
-loop-a-init c = (omega arith, omega arith, λ cl. omega arith)
-
 pub overflow_add-size : goal.overflow_add-size
-overflow_add-size c =
-    let x = c.args in
-    omega (
-      arith,
-      c.row_size-size.ensures.range,
-      c.loop-a.invariant.1,
-      c.outer-n.ensures.value,
-      outer_few x.t.now x.k,
-    )
+overflow_add-size c = omega (arith, outer_few c.args.t.now c.args.k)
 
 pub loop-a-preserved : goal.loop-a-preserved
-loop-a-preserved c =
-    let x = c.args in (
-      omega arith,
-      omega (arith, c.row_size-size.ensures.range, c.loop-a.invariant.1),
-      λ cl. size_more cl (row_due (program_in x.t.now) x.k) c.loop-a.a _ _ (c.loop-a.invariant.2 cl) (c.row_size-size.ensures.value cl),
-    )
+loop-a-preserved c = record {
+  most = omega arith;
+  is = λ cl. size_more cl (row_due (program_in c.args.t.now) c.args.k) c.loop-a.a _ _ (c.loop-a.invariant.is cl) (c.row_size-size.ensures.value cl);
+}
 
-pub returns : goal.returns
-returns c =
-    let x = c.args in
-    let p = program_in x.t.now in
-    let all : c.loop-a.a ≡ outer p x.k = omega (arith, c.outer-n.ensures.value) in
-    record {
-      value = λ cl. c.loop-a.invariant.2 cl ∙ part_rows cl p x.k c.loop-a.a all;
-      range = omega (arith, c.loop-a.invariant.1, all, outer_few x.t.now x.k);
-    }
+pub returns-clause-value : goal.returns-clause-value
+returns-clause-value c =
+    let p = program_in c.args.t.now in
+    let all : c.loop-a.a ≡ outer p c.args.k = omega arith in
+    λ cl. c.loop-a.invariant.is cl ∙ part_rows cl p c.args.k c.loop-a.a all
+
+pub returns-clause-range : goal.returns-clause-range
+returns-clause-range c = omega (arith, outer_few c.args.t.now c.args.k)

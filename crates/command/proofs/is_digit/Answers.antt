@@ -1,9 +1,0 @@
--- `command::is_digit` meets its contract. Assumes nothing.
-use borrow.Author.Tests.{le-leb, lt-leb}
-use Rattle.command.proofs.is_digit.Goals as goal
-
-pub returns-then-b-lt48 : goal.returns-then-b-lt48
-returns-then-b-lt48 c = record { value = simp (lt-leb _ _ c.if-b-lt48.true) }
-
-pub returns : goal.returns
-returns c = record { value = simp (le-leb _ _ c.if-b-lt48.false) }

@@ -1,7 +1,0 @@
--- `sets::classes` meets its contract. Assumes nothing.
-use mathlib.Core.Path.{ap}
-use Rattle.slots.specs.Layout.{mask_of}
-use Rattle.sets.proofs.classes.Goals as goal
-
-pub returns : goal.returns
-returns c = record { value = ap mask_of c.element.ensures.value }

@@ -1,8 +1,0 @@
--- `slots::leaving` meets its contract. Assumes nothing.
-use mathlib.Core.Path.{ap, ◌∙◌}
-use Rattle.slots.specs.Layout.{mask_at, claim_in}
-use Rattle.slots.proofs.leaving.Goals as goal
-
-pub returns : goal.returns
-unfolding claim_in
-returns c = record { value = c.mask_at.ensures.value ∙ ap (mask_at c.args.w.now) c.leaving_place.ensures.value }

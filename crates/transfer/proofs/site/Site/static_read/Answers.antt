@@ -1,0 +1,17 @@
+-- `transfer::site::Site::static_read` meets its contract. Assumes nothing.
+use Prim.Native.Nat.{suc}
+use Rattle.flow.specs.Claim.{register_at, static_of}
+use Rattle.flow.specs.Flows.{◌⊆◌}
+use Rattle.slots.specs.Layout.{claim_in}
+use Rattle.transfer.proofs.Written.{gives_mask}
+use Rattle.transfer.proofs.site.Site.static_read.Goals as goal
+
+pub returns : goal.returns
+returns c =
+    let a = c.args in
+    let s = a.self.now in
+    let after = register_at s.method (suc s.address) a.to in
+    record {
+      raised = c.written.ensures.raised (static_of a.place ⊆ after)
+          (rw c.mask-value.ensures.value (gives_mask (static_of a.place) after (claim_in a.w.now)));
+    }
