@@ -1,6 +1,6 @@
--- Records: the number that bytes say, a checksum, where a text stands. Definitions only.
+-- Records: the number that bytes say, a checksum, whether a file is whole, where a text stands. Definitions only.
 use Rattle.io.specs.Counts.{IsPrefixLen}
-use Rattle.std.specs.Prelude.{ℕ, ◌+◌, ◌*◌, ◌%◌, List, [], ◌∷◌}
+use Rattle.std.specs.Prelude.{ℕ, ◌+◌, ◌*◌, ◌%◌, Bool, true, false, List, [], ◌∷◌}
 use Rattle.compare_cases.specs.declared.record.Next.{Next}
 use Rattle.compare_cases.specs.declared.record.Next.TheVariants.{Text, End, Broken}
 
@@ -12,6 +12,12 @@ bytes_from n (b ∷ bs) = bytes_from (n % 72057594037927936 * 256 + b) bs
 -- a checksum with one number more, as compare/README.md has it
 abbrev pub mixed : ℕ → ℕ → ℕ
 mixed h n = (h % 4294967291 * 257 + n % 4294967291 + 1) % 4294967291
+
+-- a file is whole unless it ends in what is no record
+abbrev pub whole : Next → Bool
+whole (Text size) = true
+whole End = true
+whole Broken = false
 
 -- a text lies at the start of the buffer that was filled
 abbrev pub Filled : Next → List ℕ → Type 0

@@ -60,8 +60,7 @@ fn show_all<R: Print + Eprint, F: Read>(rt: &R, file: &mut F, records: Records) 
     for _ in 0..record::MOST {
         match show_next(rt, file, records) {
             Next::Text(_) => {}
-            Next::End => return true,
-            Next::Broken => return false,
+            last => return record::is_whole(last),
         }
     }
     true

@@ -1,5 +1,6 @@
 // Files of records. A record starts with a text: its length in four bytes, the high byte first, and so many bytes.
-ghost use Rattle.compare_cases.specs.Records.{Filled};
+ghost use Rattle.std.specs.Prelude.{◌≡◌};
+ghost use Rattle.compare_cases.specs.Records.{Filled, whole};
 
 use super::number;
 use std::fs;
@@ -26,6 +27,13 @@ pub fn open<R: Files + Eprint>(rt: &R, path: &str) -> Option<R::File> {
             None
         }
     }
+}
+
+// Whether a file whose last record was this one is whole.
+pub fn is_whole(next: Next) -> bool
+    ensures value { result ≡ whole next }
+{
+    !matches!(next, Next::Broken)
 }
 
 // Says on standard error what is wrong with a record.
