@@ -109,7 +109,8 @@ pub fn write_calls(t: &[u64; 768], w: &[u64; 9712], memory: &mut [u8]) -> usize
     ensures count { result ≡ length (call_list (program_in t.now) (claim_in w.now)) }
     ensures memory { memory.new ≡ put_calls (call_list (program_in t.now) (claim_in w.now)) 0 memory.old }
 {
-    let s = Sets::of(t);
+    let mut words = [0; 80];
+    let s = Sets::of(t, &mut words);
     let mut list = CallList { memory, count: 0 };
     for m in 0..program::method_count(t) {
         put_method(&mut list, &s, w, m);

@@ -37,7 +37,8 @@ fn row_flows(w: &[u64; 9712], m: usize, pc: usize, to: usize) -> bool
     m < 16 && pc < 32 && to < 32 && row_in(w, slots::row(m, pc), slots::row(m, to))
 }
 
-// Whether one slot's mask is in another's.
+// Whether one slot's mask is in another's. It is inlined, so that no slot is stored.
+#[inline(always)]
 fn flows(w: &[u64; 9712], from: Slot, into: Slot) -> bool
     ensures value { result ≡ kept (claim_in w.now) (slot_of from ⊆ slot_of into) }
 {

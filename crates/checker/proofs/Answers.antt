@@ -1,5 +1,5 @@
 -- What `check` and its inner functions answer, from what the readers and the rules did. Assumes nothing.
-use Rattle.std.specs.Prelude.{None, Some}
+use Rattle.std.specs.Prelude.{⊤, None, Some, Result, Ok, Err}
 use mathlib.Core.Path.{◌≡◌, refl, ap, ◌∙◌}
 use mathlib.Core.List.{List, [], ◌∷◌}
 use Prim.Native.Nat.{ℕ, ◌≤◌, ◌<◌}
@@ -18,13 +18,15 @@ use Rattle.reader.proofs.WellFormed.{well_formed}
 use Rattle.flow.specs.Claim.{Claim}
 use Rattle.flow.specs.Verdict.{verdict}
 use Rattle.flow.specs.Calls.{call_list}
-use Rattle.claim.specs.ReadClaim.{read_claim}
+use Rattle.claim.specs.declared.Refusal.{Refusal as ClaimRefusal}
+use Rattle.claim.specs.ReadClaim.{Reading as ClaimReading, read_claim, reading_number as claim_number, reading_values as claim_values, number_of as answer_number, values_of as answer_values, line_of as answer_line}
+use Rattle.claim.proofs.Answers.{refused_is as claim-refused-is}
 use Rattle.rules.specs.declared.Broken.{Broken}
 use Rattle.rules.specs.Broken.{broken_of}
 use Rattle.rules.proofs.Numbers.{is_accepted, is_violated}
 use Rattle.calls.specs.Bytes.{put_calls}
 use Rattle.calls.proofs.Bytes.{put_front, call_list_short}
-use Rattle.checker.specs.Check.{Checking, judged, with_claim, checking, answer_for, memory_after}
+use Rattle.checker.specs.Check.{Checking, turned_down, judged, with_claim, checking, answer_for, memory_after}
 
 -- ---- a claim that stands in words
 module _ (p : Program) (c : Claim) (before : List ℕ) where
@@ -43,6 +45,13 @@ module _ (p : Program) (c : Claim) (before : List ℕ) where
     kept_judged v limited count after n w =
         let front = put_front (call_list p c) before (omega (arith, call_list_short p c limited)) in
         rw (le-ltb (length before) 24576 many, is_accepted (verdict p c) v) (ap (λ (x : ℕ). Accepted x) n, w ∙ front)
+
+-- ---- a claim's text: where the reader of claims refuses it, so does the checker, however much memory is lent
+pub turned_down_lem : (p : Program) (before : List ℕ) (a : Result ⊤ ClaimRefusal) (x : ClaimReading) → answer_number a ≡ claim_number x
+    → answer_values a ≡ claim_values x → (answer_number a ≡ 0 → ⊥)
+    → with_claim p (length before) x ≡ turned_down (answer_number a) (answer_line a)
+turned_down_lem p before (Ok u) x e v d = absurd (d refl)
+turned_down_lem p before (Err r) x e v d = rw (claim-refused-is x r e v) refl
 
 -- ---- a program's text
 module _ (program claim before : List ℕ) where

@@ -1,6 +1,7 @@
--- Records: the number that bytes say, a checksum, whether a file is whole, where a text stands. Definitions only.
+-- Records: the number that bytes say, a checksum, how many records are left, whether a file is whole, where a text stands.
+-- Definitions only.
 use Rattle.io.specs.Counts.{IsPrefixLen}
-use Rattle.std.specs.Prelude.{ℕ, ◌+◌, ◌*◌, ◌%◌, Bool, true, false, List, [], ◌∷◌}
+use Rattle.std.specs.Prelude.{ℕ, ◌+◌, ◌-◌, ◌*◌, ◌%◌, Bool, true, false, List, [], ◌∷◌}
 use Rattle.compare_cases.specs.declared.record.Next.{Next}
 use Rattle.compare_cases.specs.declared.record.Next.TheVariants.{Text, End, Broken}
 
@@ -12,6 +13,12 @@ bytes_from n (b ∷ bs) = bytes_from (n % 72057594037927936 * 256 + b) bs
 -- a checksum with one number more, as compare/README.md has it
 abbrev pub mixed : ℕ → ℕ → ℕ
 mixed h n = (h % 4294967291 * 257 + n % 4294967291 + 1) % 4294967291
+
+-- a text takes one of the records left; after the end, or what is no record, none is left
+abbrev pub left_after : Next → ℕ → ℕ
+left_after (Text size) left = left - 1
+left_after End left = 0
+left_after Broken left = 0
 
 -- a file is whole unless it ends in what is no record
 abbrev pub whole : Next → Bool

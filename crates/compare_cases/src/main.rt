@@ -57,10 +57,10 @@ fn show_next<R: Print + Eprint, F: Read>(rt: &R, file: &mut F, records: Records)
 
 // The same for every record of a file; false where the file is no sequence of records.
 fn show_all<R: Print + Eprint, F: Read>(rt: &R, file: &mut F, records: Records) -> bool {
-    for _ in 0..record::MOST {
-        match show_next(rt, file, records) {
-            Next::Text(_) => {}
-            last => return record::is_whole(last),
+    for read in 0..record::MOST {
+        let next = show_next(rt, file, records);
+        if record::left_after(next, record::MOST - read) == 0 {
+            return record::is_whole(next);
         }
     }
     true

@@ -1,6 +1,6 @@
 // Files of records. A record starts with a text: its length in four bytes, the high byte first, and so many bytes.
-ghost use Rattle.std.specs.Prelude.{◌≡◌};
-ghost use Rattle.compare_cases.specs.Records.{Filled, whole};
+ghost use Rattle.std.specs.Prelude.{◌≡◌, ◌-◌, ◌≤◌};
+ghost use Rattle.compare_cases.specs.Records.{Filled, left_after, whole};
 
 use super::number;
 use std::fs;
@@ -26,6 +26,17 @@ pub fn open<R: Files + Eprint>(rt: &R, path: &str) -> Option<R::File> {
             let _ = eprintln!(rt; "{path}: {error}");
             None
         }
+    }
+}
+
+// How many records may be left to read after this one, where so many were before it.
+pub fn left_after(next: Next, left: usize) -> usize
+    ensures value { result ≡ left_after next left }
+    ensures fewer { result ≤ left - 1 }
+{
+    match next {
+        Next::Text(_) => left.saturating_sub(1),
+        Next::End | Next::Broken => 0,
     }
 }
 

@@ -8,9 +8,11 @@ use lib.ListN.{length, get_or, set}
 use borrow.Author.Tests.{eq-eqb, ne_eqb}
 use Rattle.machine.specs.State as state
 use Rattle.machine.specs.State.{State, no_frame}
+use Rattle.machine.specs.Run.{with_frames}
 use Rattle.cells.specs.declared.Frame.{Frame}
 use Rattle.cells.specs.Cells.{zero_frame, frame_of, frame_at, frames_of}
 use Rattle.laid.proofs.Lists.{laid_length, laid_same, laid_read, laid_put}
+use Rattle.laid.proofs.Parts.{frame_none}
 
 -- ---- frame i
 
@@ -60,6 +62,9 @@ module _ (s : State) (before : List Frame) (d : Frame) where
       frame_is (f ∷ g ∷ rest) g (length rest) e (omega arith) enough
       (frame_rest f (g ∷ rest) (length rest) (λ q. omega arith) ∙ frame_top g rest)
 
+  pub frame_absent : (i : ℕ) → length s.frames ≤ i → i < 32 → 32 ≤ length before → get_or (frames_of s before) i d ≡ zero_frame
+  frame_absent i l b enough = frame_is s.frames no_frame i refl b enough (frame_out s.frames i l) ∙ frame_none
+
 -- ---- what is written
 
 module _ (s u : State) (before : List Frame) where
@@ -87,3 +92,18 @@ module _ (s u : State) (before : List Frame) where
   top_pop f rest e q l enough =
       frame_put (f ∷ rest) rest no_frame (length rest) e q l enough (frame_out rest (length rest) (omega arith))
       (λ j o. sym (frame_rest f rest j o))
+
+  pub top_push : (g : state.Frame) → u.frames ≡ g ∷ s.frames → length s.frames < 32 → 32 ≤ length before
+      → set (frames_of s before) (length s.frames) (frame_of g) ≡ frames_of u before
+  top_push g q l enough =
+      frame_put s.frames (g ∷ s.frames) g (length s.frames) refl q l enough (frame_top g s.frames)
+      (λ j o. frame_rest g s.frames j o)
+
+-- the top frame is dropped, and the one below it changes
+pub below_put : (s u : State) (before : List Frame) (f g h : state.Frame) (rest : List state.Frame) → s.frames ≡ f ∷ g ∷ rest → u.frames ≡ h ∷ rest
+    → length (g ∷ rest) < 32 → 32 ≤ length before
+    → set (set (frames_of s before) (length (g ∷ rest)) zero_frame) (length rest) (frame_of h) ≡ frames_of u before
+below_put s u before f g h rest e q l enough =
+    let left : State = with_frames s (g ∷ rest) in
+    ap (λ (fs : List Frame). set fs (length rest) (frame_of h)) (top_pop s left before f (g ∷ rest) e refl l enough)
+    ∙ top_put left u before g h rest refl q (omega arith) enough

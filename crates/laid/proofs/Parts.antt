@@ -15,11 +15,11 @@ use Rattle.program.proofs.Writes.{set_tab}
 use Rattle.machine.specs.declared.Value as machine
 use Rattle.machine.specs.State as state
 use Rattle.machine.specs.State.{null, no_frame, register}
-use Rattle.machine.specs.Run.{fresh, stored}
+use Rattle.machine.specs.Run.{moved, fresh, stored}
 use Rattle.machine.proofs.Elements.{replicate_at}
 use Rattle.cells.specs.declared.Value.{Value}
 use Rattle.cells.specs.Cells.{cell_of, zero_value, zero_frame, zero_object, frame_of, object_of}
-use Rattle.store.specs.Store.{with_registers, with_register, with_class, with_cells, with_cell}
+use Rattle.store.specs.Store.{with_method, with_address, with_result, with_registers, with_register, with_class, with_cells, with_cell}
 use Rattle.laid.proofs.Lists.{tab_same}
 
 -- ---- the values of a list in n places
@@ -65,6 +65,17 @@ module _ (f : state.Frame) where
   pub register_past : (r : ℕ) (c : Value) → 16 ≤ r → with_register (frame_of f) r c ≡ frame_of f
   register_past r c l = ap (with_registers (frame_of f)) (values_past 16 f.registers r c l)
 
+  pub address_put : (a : ℕ) → with_address (frame_of f) a ≡ frame_of (moved f a)
+  address_put a = refl
+
+  pub result_put : (v : machine.Value)
+      → with_result (frame_of f) (cell_of v) ≡ frame_of (record { method = f.method; address = f.address; registers = f.registers; result = v })
+  result_put v = refl
+
+  pub method_put : (m : ℕ)
+      → with_method (frame_of f) m ≡ frame_of (record { method = m; address = f.address; registers = f.registers; result = f.result })
+  method_put m = refl
+
 -- a frame of nulls alone
 pub frame_null : (vs : List machine.Value) → ((i : ℕ) → get_or vs i null ≡ null)
     → frame_of (record { method = 0; address = 0; registers = vs; result = null }) ≡ zero_frame
@@ -82,6 +93,9 @@ module _ (o : state.Object) where
   pub cell_put : (x : ℕ) (v : machine.Value) → x < length o.cells → length o.cells ≤ 16
       → with_cell (object_of o) x (cell_of v) ≡ object_of (stored o x v)
   cell_put x v l few = ap (with_cells (object_of o)) (values_put 16 o.cells x v l few)
+
+  pub cell_past : (x : ℕ) (c : Value) → 16 ≤ x → with_cell (object_of o) x c ≡ object_of o
+  cell_past x c l = ap (with_cells (object_of o)) (values_past 16 o.cells x c l)
 
 -- a new object: "Fields .. start at 0"
 pub object_fresh : (p : Program) (k : ℕ) → object_of (fresh p k) ≡ with_class zero_object k

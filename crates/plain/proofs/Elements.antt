@@ -16,7 +16,8 @@ use Rattle.cells.specs.declared.Value.{Value}
 use Rattle.cells.specs.declared.Frame.{Frame}
 use Rattle.cells.specs.declared.Object.{Object}
 use Rattle.cells.specs.Cells.{value_of, zero_value}
-use Rattle.plain.specs.Words.{put, word_in, value_word_in, frame_word_in, object_word_in, each_word}
+use Rattle.store.specs.Store.{absent_frame, absent_object}
+use Rattle.plain.specs.Words.{put, word_in, value_word_in, frame_word_in, object_word_in, each_word, frames_word, objects_word}
 use Rattle.plain.proofs.Puts.{put_put, put_cong}
 
 -- ---- one element
@@ -104,3 +105,28 @@ module _ {A : Type 0} (size : ℕ) (word : A → ℕ → ℕ) (d : A) (xs : List
       same j b =
           ap (λ (m : ℕ). word (get_or xs m d) j) (sym (place_div size i j b))
           ∙ ap (λ (m : ℕ). word (get_or xs ((size * i + j) / size) d) m) (sym (place_mod size i j b))
+
+-- ---- one element more, each w words wide, whatever they hold
+
+module _ (w : ℕ) (g h : ℕ → ℕ) (ws₀ ws ws' : List ℕ) (i : ℕ) where
+  pub one_more_lem : ((j : ℕ) → j < w → h j ≡ g (w * i + j)) → ws' ≡ put w h ws (w * i) → ws ≡ put (w * i) g ws₀ 0 → ws' ≡ put (w * (i + 1)) g ws₀ 0
+  one_more_lem same e k =
+      let z : w * i ≡ 0 + w * i = omega arith in
+      e
+      ∙ put_cong h (λ j. g (w * i + j)) ws (w * i) w same
+      ∙ ap (λ (l : List ℕ). put w (λ j. g (w * i + j)) l (w * i)) k
+      ∙ ap (λ (a : ℕ). put w (λ j. g (w * i + j)) (put (w * i) g ws₀ 0) a) z
+      ∙ put_put g ws₀ 0 (w * i) w
+      ∙ ap (λ (n : ℕ). put n g ws₀ 0) (sym (mul-suc w i) ∙ ap (λ (n : ℕ). w * n) (sym (add-one i)))
+
+pub frame_more : (fs : List Frame) (i j : ℕ) → j < 19 → frame_word_in (get_or fs i absent_frame) j ≡ frames_word fs (19 * i + j)
+unfolding frames_word
+frame_more fs i j l =
+    ap (λ (k : ℕ). frame_word_in (get_or fs k absent_frame) j) (sym (place_div 19 i j l))
+    ∙ ap (λ (k : ℕ). frame_word_in (get_or fs ((19 * i + j) / 19) absent_frame) k) (sym (place_mod 19 i j l))
+
+pub object_more : (os : List Object) (i j : ℕ) → j < 17 → object_word_in (get_or os i absent_object) j ≡ objects_word os (17 * i + j)
+unfolding objects_word
+object_more os i j l =
+    ap (λ (k : ℕ). object_word_in (get_or os k absent_object) j) (sym (place_div 17 i j l))
+    ∙ ap (λ (k : ℕ). object_word_in (get_or os ((17 * i + j) / 17) absent_object) k) (sym (place_mod 17 i j l))

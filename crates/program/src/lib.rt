@@ -2,7 +2,7 @@
 // program that stands in them.
 #![tactic(auto)]
 
-ghost use Rattle.std.specs.Prelude.{◌≡◌, ℕ, ◌+◌, ◌*◌, ◌≤◌, ltb, cond, get_or};
+ghost use Rattle.std.specs.Prelude.{◌≡◌, ℕ, ◌+◌, ◌*◌, ◌≤◌, ltb, cond, min, get_or};
 ghost use Rattle.program.specs.Program.{class_count, field_count, method_count, superclass, field_class};
 ghost use Rattle.program.specs.Program.{method_class, method_name, method_kind, registers, arguments, code_length};
 ghost use Rattle.program.specs.Program.{word_at, instruction_at, handler_count, handler_at, from_last};
@@ -16,6 +16,13 @@ pub fn word(t: &[u64; 768], i: usize) -> usize
     ensures value { result ≡ get_or t.now i 0 }
 {
     t.get(i).copied().unwrap_or(0) as usize
+}
+
+// The lesser of two counts.
+pub fn at_most(n: usize, limit: usize) -> usize
+    ensures value { result ≡ min n limit }
+{
+    n.min(limit)
 }
 
 #[tactic(auto, using(crate::proofs::Read::classes_are))]

@@ -1,7 +1,8 @@
 // Rules 9 and 10 of the exceptions that are raised at an address, by the instruction or by a callee: those in a mask.
-ghost use Rattle.std.specs.Prelude.{◌<◌};
+ghost use Rattle.std.specs.Prelude.{◌≡◌, ◌<◌};
 ghost use Rattle.program.specs.Tables.{program_in};
 ghost use Rattle.slots.specs.Layout.{claim_in};
+ghost use Rattle.sets.specs.Sets.{sets_of};
 ghost use Rattle.raise.specs.Raises.{Flowing, Leaving};
 ghost use Rattle.raise.specs.Inside.{taken_into, raised_flows, own_flows};
 
@@ -45,7 +46,7 @@ fn by_handler(sets: &Sets<'_>, w: &mut [u64; 9712], m: usize, pc: usize, mask: M
 }
 
 // The same, answered at once where there are none.
-pub fn raised(sets: &Sets<'_>, w: &mut [u64; 9712], m: usize, pc: usize, mask: Mask) -> u64
+pub fn raised_by(sets: &Sets<'_>, w: &mut [u64; 9712], m: usize, pc: usize, mask: Mask) -> u64
     ensures raised { let p = program_in sets.now.tables.now in
         let c = claim_in w.old in
         let d = claim_in w.new in
@@ -58,7 +59,7 @@ pub fn raised(sets: &Sets<'_>, w: &mut [u64; 9712], m: usize, pc: usize, mask: M
 }
 
 // Of a class that an instruction raises itself, where it may.
-pub fn own(
+pub fn own_by(
     sets: &Sets<'_>,
     w: &mut [u64; 9712],
     m: usize,
@@ -72,8 +73,44 @@ pub fn own(
         (class < 64 → Leaving p m (own_flows p m pc may class) c d) }
 {
     if may {
-        raised(sets, w, m, pc, Mask::of(class))
+        raised_by(sets, w, m, pc, Mask::of(class))
     } else {
         0
     }
+}
+
+// The same for a caller that holds a program's sets in words: they are made anew, so that nothing is asked of the words.
+pub fn raised(
+    t: &[u64; 768],
+    w: &mut [u64; 9712],
+    s: &[u64; 80],
+    m: usize,
+    pc: usize,
+    mask: Mask,
+) -> u64
+    ensures raised { let p = program_in t.now in
+        let c = claim_in w.old in
+        let d = claim_in w.new in
+        (s.now ≡ sets_of p → Leaving p m (raised_flows p m pc mask) c d) }
+{
+    let mut words = [0; 80];
+    raised_by(&Sets::of(t, &mut words), w, m, pc, mask)
+}
+
+pub fn own(
+    t: &[u64; 768],
+    w: &mut [u64; 9712],
+    s: &[u64; 80],
+    m: usize,
+    pc: usize,
+    may: bool,
+    class: usize,
+) -> u64
+    ensures raised { let p = program_in t.now in
+        let c = claim_in w.old in
+        let d = claim_in w.new in
+        (s.now ≡ sets_of p → class < 64 → Leaving p m (own_flows p m pc may class) c d) }
+{
+    let mut words = [0; 80];
+    own_by(&Sets::of(t, &mut words), w, m, pc, may, class)
 }

@@ -5,6 +5,7 @@ ghost use Rattle.program.specs.Tables.{program_in};
 ghost use Rattle.flow.specs.Claim.{field_of, number_bit};
 ghost use Rattle.flow.specs.Flows.{some};
 ghost use Rattle.slots.specs.Layout.{place_of, claim_size, claim_in};
+ghost use Rattle.sets.specs.Sets.{sets_of};
 ghost use Rattle.order.specs.Raised.{Raised};
 ghost use Rattle.raise.specs.Inside.{is_number, from_numbers, field_has, passes_cast, into_field, into_fields};
 
@@ -43,11 +44,20 @@ pub fn of_numbers(left: Mask, right: Mask) -> Mask
 }
 
 // What passes a cast of a mask to a class: zero, and the classes at or below it.
-pub fn passing(sets: &Sets<'_>, mask: Mask, class: usize) -> Mask
+pub fn passing_by(sets: &Sets<'_>, mask: Mask, class: usize) -> Mask
     ensures bits { let p = program_in sets.now.tables.now in
         ((k : ℕ) → has result k ≡ has mask k && passes_cast p class k) }
 {
     mask.common(sets.below(class).with(62))
+}
+
+// The same for a caller that holds a program's sets in words: they are made anew, so that nothing is asked of the words.
+pub fn passing(t: &[u64; 768], s: &[u64; 80], mask: Mask, class: usize) -> Mask
+    ensures bits { let p = program_in t.now in
+        (s.now ≡ sets_of p → (k : ℕ) → has result k ≡ has mask k && passes_cast p class k) }
+{
+    let mut words = [0; 80];
+    passing_by(&Sets::of(t, &mut words), mask, class)
 }
 
 // The mask of field x of class k, if it is in the set; else none.

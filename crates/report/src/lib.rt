@@ -24,7 +24,7 @@ fn put_three(page: &mut Page<'_>, a: usize, b: usize, c: usize)
     page.two(b);
     page.byte(b' ');
     page.two(c);
-    page.byte(b'\n');
+    page.byte(b'\n'); // each call, and each place of a rule, has its own line
 }
 
 // A byte of memory, 0 past its end.

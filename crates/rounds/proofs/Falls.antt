@@ -1,4 +1,4 @@
--- The stepper's loops end. Assumes nothing.
+-- The stepper's loops end, and keep the lent slices' lengths. Assumes nothing.
 use mathlib.Core.Path.{◌≡◌, refl}
 use mathlib.Core.Bool.{Bool, true, false, ◌&&◌}
 use mathlib.Core.List.{List}
@@ -13,10 +13,38 @@ use Rattle.site.specs.declared.How.{How}
 use Rattle.shift.specs.declared.Run.{Run}
 use Rattle.shift.specs.declared.Stay.{Stay}
 use Rattle.shift.proofs.Places.{preceding_is}
-use Rattle.shift.specs.Stay.{is_went, again_left, stay_of, at_of, raised_at, is_running, runs_on}
+use Rattle.shift.specs.Stay.{is_went, again_left, site_of, stay_of, at_of, raised_at, is_running, runs_on}
 use Rattle.drive.specs.Models.{Lent, Done, done, looped}
-use Rattle.rounds.specs.Rounds.{one_done, goes, method_in, address_in, stay_in, forth_done, back_done, round_done, runs, turns_of}
+use Rattle.drive.proofs.Driver.{Same}
+use Rattle.drive.proofs.Keeps.{same_turns, pick_keeps, loop_keeps}
+use Rattle.work.proofs.Keeps.{perform_keeps}
+use Rattle.turns.proofs.Keeps.{execute_keeps, unwind_keeps}
+use Rattle.rounds.specs.Rounds.{one_done, goes, stay_done, method_in, address_in, stay_in, forth_done, back_done, round_done, runs, turns_of, run_done}
 use Rattle.rounds.proofs.Fewer.{both, executed_few, unwind_few}
+
+-- ---- lengths
+
+pub one_keeps : (t : List ℕ) (m : Lent) (k : Stay) → Same m (one_done t m k).memory
+one_keeps t m k = perform_keeps t m (site_of (program_in t) k)
+
+pub stay_keeps : (t : List ℕ) (m : Lent) (k : Stay) → Same m (stay_done t m k).memory
+stay_keeps t m k = loop_keeps goes one_done one_keeps t k.left m k
+
+pub forth_keeps : (t : List ℕ) (m : Lent) (k : Run) → Same m (forth_done t m k).memory
+unfolding forth_done
+forth_keeps t m k =
+    same_turns m (stay_in t m k).memory _ (stay_keeps t m (stay_of k (method_in m k) (address_in m k)))
+    (execute_keeps t (stay_in t m k).memory (at_of (program_in t) k (stay_in t m k).result))
+
+pub back_keeps : (t : List ℕ) (m : Lent) (k : Run) → Same m (back_done t m k).memory
+back_keeps t m k = unwind_keeps t m (raised_at k)
+
+pub round_keeps : (t : List ℕ) (m : Lent) (k : Run) → Same m (round_done t m k).memory
+round_keeps t m k =
+    pick_keeps (is_running k.tally.status) m (forth_done t m k) (back_done t m k) (forth_keeps t m k) (back_keeps t m k)
+
+pub run_keeps : (t : List ℕ) (m : Lent) (k : Run) → Same m (run_done t m k).memory
+run_keeps t m k = loop_keeps runs round_done round_keeps t (turns_of k) m k
 
 -- ---- the instructions that stay in a frame
 

@@ -115,7 +115,8 @@ fn in_method<'a>(sets: &'a Sets<'a>, claim: &'a [u64; 9712], method: usize) -> O
 pub fn first_broken(t: &[u64; 768], w: &[u64; 9712]) -> Option<Broken>
     ensures value { result ≡ broken_of (verdict (program_in t.now) (claim_in w.now)) }
 {
-    let sets = Sets::of(t);
+    let mut words = [0; 80];
+    let sets = Sets::of(t, &mut words);
     for m in 0..program::method_count(t) {
         if let Some(broken) = in_method(&sets, w, m) {
             return Some(broken);

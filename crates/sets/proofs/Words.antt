@@ -2,17 +2,19 @@
 use mathlib.Core.Path.{◌≡◌, refl, sym, ap, ◌∙◌}
 use mathlib.Core.Bool.{Bool, true, false, ◌&&◌}
 use mathlib.Core.List.{List}
-use Prim.Native.Nat.{ℕ, ◌-◌, ◌^◌, ◌≤◌, ◌<◌}
+use Prim.Native.Nat.{ℕ, ◌+◌, ◌-◌, ◌^◌, ◌≤◌, ◌<◌}
+use native.Mathlib.Decide.{ℕ_discrete}
 use native.Mathlib.Omega.{arith}
 use lib.Dec.{eqb, ltb}
-use lib.ListN.{length, get_or}
+use lib.ListN.{length, get_or, set}
+use lib.Seq.{get_or-set_same, get_or-set_other}
 use borrow.Author.Tests.{ltb-true, ltb-false, eqb-true, lt-ltb, le-ltb}
 use Rattle.text.proofs.Cases.{by_test}
 use Rattle.instruction.proofs.Flags.{both_true}
 use Rattle.mask.specs.declared.Mask.{Mask}
 use Rattle.mask.specs.Mask.{has}
 use Rattle.mask.proofs.Laws.{past_has, and_false}
-use Rattle.mask.proofs.Sets.{and_end, where_has, has_where}
+use Rattle.mask.proofs.Sets.{and_end, no_bit, where_has, has_where}
 use Rattle.program.specs.Lists.{tab}
 use Rattle.program.specs.Program.{Program, class_count, method_count, method_name, method_kind, method_class, arguments}
 use Rattle.program.proofs.Lists.{getD_tab, tab_cong, tab_getD}
@@ -22,7 +24,7 @@ use Rattle.flow.specs.Flows.{is_found}
 use Rattle.flow.proofs.Callees.{found_is}
 use Rattle.slots.specs.Layout.{mask_of, mask_at}
 use Rattle.sets.specs.Sets.{leads, is_in, set_word, sets_of}
-use Rattle.sets.specs.Inside.{named}
+use Rattle.sets.specs.Inside.{named, below_set, class_set, leading_set}
 use Rattle.search.proofs.Upward.{below_less}
 
 module _ (p : Program) where
@@ -44,6 +46,15 @@ module _ (p : Program) where
   word_is j m l bits = has_where m (is_in p j) l (λ k less. bits k)
 
   -- ---- all words
+  pub words_more : (ws : List ℕ) (j w : ℕ) → length ws ≡ 80 → j < 80 → w ≡ set_word p j
+      → ((i : ℕ) → i < j → get_or ws i 0 ≡ set_word p i)
+      → (i : ℕ) → i < j + 1 → get_or (set ws j w) i 0 ≡ set_word p i
+  words_more ws j w size l e so_far i less = by (ℕ_discrete i j)
+    where
+      by : Dec (i ≡ j) → get_or (set ws j w) i 0 ≡ set_word p i
+      by (yes same) = rw (same, get_or-set_same ws j w 0 (omega (arith, size))) e
+      by (no other) = rw (get_or-set_other ws j i w 0 other) (so_far i (omega (arith, other)))
+
   pub words_all : (ws : List ℕ) → length ws ≡ 80 → ((i : ℕ) → i < 80 → get_or ws i 0 ≡ set_word p i) → ws ≡ sets_of p
   unfolding sets_of
   words_all ws size h =
@@ -82,6 +93,24 @@ module _ (p : Program) where
         (λ h. rw (below_less p k c (omega (arith, ltb-true k (class_count p) h))) (and_false (ltb k (class_count p))))
         (λ h. rw h)
 
+    pub below_has : (c k : ℕ) → has (below_set (sets_of p) c) k ≡ ltb k (class_count p) && below p k c
+    below_has c k =
+        by_test (ltb c 60)
+        (λ t. rw t (read_has c k (omega (arith, ltb-true c 60 t)) ∙ sym (below_in_lem c k (ltb-true c 60 t))))
+        (λ t. rw t (no_bit k ∙ sym (none_below c k (ltb-false c 60 t))))
+
+    pub classes_has : (k : ℕ) → has (class_set (sets_of p)) k ≡ ltb k (class_count p)
+    classes_has k = read_has 60 k (omega arith) ∙ sym (all_in 60 k (omega arith) (omega arith))
+
+    -- a set that is read from the program's words
+    pub below_read : (ws : List ℕ) → ws ≡ sets_of p → (m : Mask) (c k : ℕ) → m ≡ below_set ws c → has m k ≡ ltb k (class_count p) && below p k c
+    below_read ws made m c k e =
+        ap (λ (x : Mask). has x k) e ∙ ap (λ (xs : List ℕ). has (below_set xs c) k) made ∙ below_has c k
+
+    pub classes_read : (ws : List ℕ) → ws ≡ sets_of p → (m : Mask) (k : ℕ) → m ≡ class_set ws → has m k ≡ ltb k (class_count p)
+    classes_read ws made m k e =
+        ap (λ (x : Mask). has x k) e ∙ ap (λ (xs : List ℕ). has (class_set xs) k) made ∙ classes_has k
+
     -- a callee has the call's name and argument count
     callee_named : (name count q k : ℕ) (t : Bool) → is_found (virtual_callee p k name count) q ≡ t → named p name count q ≡ false → t ≡ false
     unfolding answers
@@ -109,3 +138,21 @@ module _ (p : Program) where
 
     pub none_leads : method_count p ≤ 16 → (name count q k : ℕ) → 16 ≤ q → is_found (virtual_callee p k name count) q ≡ false
     none_leads small name count q k l = callee_few small name count q k (is_found (virtual_callee p k name count) q) refl l
+
+    own_has : (q k : ℕ) → q < 16 → has (leading_set (sets_of p) q) k ≡ ltb k (class_count p) && leads p q k
+    own_has q k l =
+        let same : 64 + q - 64 ≡ q = omega arith in
+        rw (lt-ltb q 16 l)
+        (read_has (64 + q) k (omega arith)
+        ∙ sym (leading_in (64 + q) k (omega arith))
+        ∙ ap (λ (i : ℕ). ltb k (class_count p) && leads p i k) same)
+
+    pub leading_has : method_count p ≤ 16 → (name count q k : ℕ)
+        → named p name count q && has (leading_set (sets_of p) q) k ≡ ltb k (class_count p) && is_found (virtual_callee p k name count) q
+    leading_has small name count q k =
+        by_test (named p name count q)
+        (λ t.
+        by_test (ltb q 16)
+        (λ h. rw t (own_has q k (ltb-true q 16 h) ∙ ap (λ (b : Bool). ltb k (class_count p) && b) (named_leads name count q k t)))
+        (λ h. rw (t, h, no_bit k, none_leads small name count q k (ltb-false q 16 h)) (sym (and_false (ltb k (class_count p))))))
+        (λ t. rw (t, unnamed_leads name count q k t) (sym (and_false (ltb k (class_count p)))))

@@ -3,6 +3,7 @@
 #![tactic(auto)]
 
 mod dispatch; // dispatch.rt: of each method the classes that lead to it
+mod held; // held.rt: the sets in words that a caller holds
 
 ghost use Rattle.std.specs.Prelude.{◌≡◌, ◌&&◌, ◌||◌, ℕ, ◌<◌, eqb, ltb, get_or};
 ghost use Rattle.mask.specs.Mask.{has};
@@ -13,26 +14,24 @@ ghost use Rattle.flow.specs.Flows.{is_found};
 ghost use Rattle.sets.specs.Sets.{set_word, fails_cast, sets_of};
 ghost use Rattle.sets.specs.Inside.{above_in, below_by};
 
+pub use held::{below, caught, classes, fails_cast, fill, leading, with_field};
 use mask::Mask;
-use std::array;
 
 // A program's tables and the sets of its classes, made of them.
-#[derive(Drop)]
+#[derive(Clone, Copy)]
 pub struct Sets<'a> {
     pub tables: &'a [u64; 768],
-    words: [u64; 80],
-    pub ghost made: { words ≡ sets_of (program_in tables.now) },
+    words: &'a [u64; 80],
+    pub ghost made: { words.now ≡ sets_of (program_in tables.now) },
 }
 
 impl<'a> Sets<'a> {
-    // The sets of the program in tables.
-    pub fn of(tables: &'a [u64; 768]) -> Self
+    // The sets of the program in tables, made in words that are lent.
+    pub fn of(tables: &'a [u64; 768], words: &'a mut [u64; 80]) -> Self
         ensures tables { result.tables.now ≡ tables.now }
     {
-        Self {
-            tables,
-            words: array::from_fn(|j| set_word(tables, j)),
-        }
+        fill(tables, &mut *words);
+        Self { tables, words }
     }
 
     // The set of all classes.

@@ -1,2 +1,4 @@
--- What the proofs of several functions use, here and in the crates above.
+-- What the proofs of several functions use.
+pub mod Decided
+pub mod Tags
 pub mod Places

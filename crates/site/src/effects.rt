@@ -97,6 +97,7 @@ pub fn plain(w: u64, x: Value, z: Value) -> Effect
 {
     let a = field_a(w);
     let o = opcode(w);
+    // Each opcode has an arm of its own, as in `perform` of work: two in one arm are a test apart from the table of arms.
     match o {
         1 => Effect::Write {
             to: a,
@@ -108,7 +109,11 @@ pub fn plain(w: u64, x: Value, z: Value) -> Effect
         },
         3 => Effect::Jump { target: field_d(w) },
         6 => decide::numbers::unop(a, Unary::from(field_c(w)), x.into()),
-        14 | 15 => Effect::Write {
+        14 => Effect::Write {
+            to: a,
+            value: z.into(),
+        },
+        15 => Effect::Write {
             to: a,
             value: z.into(),
         },

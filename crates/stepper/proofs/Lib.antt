@@ -1,2 +1,3 @@
--- What `step` answers.
+-- What `step` answers, and what keeps the lent slices' lengths.
 pub mod Answers
+pub mod Kept

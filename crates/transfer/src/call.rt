@@ -32,7 +32,7 @@ impl Site<'_> {
         let value = slots::mask(w, Slot::Returned(q));
         let new = mark(join(&mut *w, Slot::Result(self.method, next), value), next);
         let out = slots::mask(w, Slot::Leaving(q));
-        new | exceptions::raised(self.sets, w, self.method, self.address, out)
+        new | exceptions::raised_by(self.sets, w, self.method, self.address, out)
     }
 
     pub fn by_method(&self, w: &mut [u64; 9712], method: u8, count: u8, register: u8) -> u64

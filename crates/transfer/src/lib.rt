@@ -3,13 +3,14 @@
 // same method, then the entry of a callee, what leaves the method or is returned, and a field or a static (`raise::words`).
 #![tactic(auto)]
 
-ghost use Rattle.std.specs.Prelude.{◌&&◌, ◌<◌, eqb};
+ghost use Rattle.std.specs.Prelude.{◌≡◌, ◌&&◌, ◌<◌, eqb};
 ghost use Rattle.program.specs.Program.{method_count, code_length};
 ghost use Rattle.program.specs.Tables.{program_in};
 ghost use Rattle.reader.specs.Formed.{Formed};
 ghost use Rattle.flow.specs.Flows.{when};
 ghost use Rattle.flow.specs.Rules.{initial_memory, entry, rules_of, rules_at};
 ghost use Rattle.slots.specs.Layout.{claim_in};
+ghost use Rattle.sets.specs.Sets.{sets_of};
 ghost use Rattle.order.specs.Raised.{Raised, all_of};
 ghost use Rattle.transfer.specs.Transfer.{Ready};
 ghost use Rattle.transfer.specs.Site.{program_of};
@@ -101,7 +102,7 @@ fn entry_at(t: &[u64; 768], w: &mut [u64; 9712], m: usize, pc: usize)
 }
 
 // All rules at an address.
-pub fn raise_at<'a>(sets: &'a Sets<'a>, w: &mut [u64; 9712], method: usize, address: usize) -> u64
+pub fn raise_by<'a>(sets: &'a Sets<'a>, w: &mut [u64; 9712], method: usize, address: usize) -> u64
     ensures raised { let p = program_in sets.now.tables.now in
         let c = claim_in w.old in
         let d = claim_in w.new in
@@ -118,4 +119,15 @@ pub fn raise_at<'a>(sets: &'a Sets<'a>, w: &mut [u64; 9712], method: usize, addr
         address,
     };
     site.of_instruction(w, program::instruction_at(sets.tables, method, address))
+}
+
+// The same for a caller that holds a program's sets in words: they are made anew, so that nothing is asked of the words.
+pub fn raise_at(t: &[u64; 768], w: &mut [u64; 9712], s: &[u64; 80], m: usize, pc: usize) -> u64
+    ensures raised { let p = program_in t.now in
+        let c = claim_in w.old in
+        let d = claim_in w.new in
+        (s.now ≡ sets_of p → Formed p → m < method_count p → pc < code_length p m → Raised (all_of (rules_at p m pc)) c d) }
+{
+    let mut words = [0; 80];
+    raise_by(&Sets::of(t, &mut words), w, m, pc)
 }

@@ -21,7 +21,7 @@ impl Site<'_> {
     {
         let (m, pc) = (self.method, self.address);
         let mask = slots::mask(w, Slot::Register(m, pc, object as usize));
-        exceptions::own(self.sets, w, m, pc, mask.has(62), 2)
+        exceptions::own_by(self.sets, w, m, pc, mask.has(62), 2)
     }
 
     pub fn divided_by_zero(&self, w: &mut [u64; 9712], operation: Operation, divisor: u8) -> u64
@@ -35,7 +35,7 @@ impl Site<'_> {
         let (m, pc) = (self.method, self.address);
         let mask = slots::mask(w, Slot::Register(m, pc, divisor as usize));
         let by_zero = arithmetic::divides(operation) && mask.has(62);
-        exceptions::own(self.sets, w, m, pc, by_zero, 3)
+        exceptions::own_by(self.sets, w, m, pc, by_zero, 3)
     }
 
     pub fn cast_failed(&self, w: &mut [u64; 9712], register: u8, class: u8) -> u64
@@ -49,6 +49,6 @@ impl Site<'_> {
         let (m, pc) = (self.method, self.address);
         let mask = slots::mask(w, Slot::Register(m, pc, register as usize));
         let fails = self.sets.fails_cast(mask, class as usize);
-        exceptions::own(self.sets, w, m, pc, fails, 4)
+        exceptions::own_by(self.sets, w, m, pc, fails, 4)
     }
 }

@@ -115,7 +115,7 @@ impl Site<'_> {
         let (m, pc) = (self.method, self.address);
         let mask = slots::mask(w, Slot::Register(m, pc, from as usize));
         let throwable = mask.common(self.sets.below(1));
-        let new = exceptions::raised(self.sets, &mut *w, m, pc, throwable);
+        let new = exceptions::raised_by(self.sets, &mut *w, m, pc, throwable);
         new | self.null_used(w, from)
     }
 }

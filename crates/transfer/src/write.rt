@@ -171,7 +171,7 @@ impl Site<'_> {
             w,
             Slot::Register(self.method, self.address, register as usize),
         );
-        let value = masks::passing(self.sets, mask, class as usize);
+        let value = masks::passing_by(self.sets, mask, class as usize);
         let new = self.written(&mut *w, register, value);
         new | self.cast_failed(w, register, class)
     }

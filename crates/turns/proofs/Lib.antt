@@ -1,2 +1,3 @@
--- Passing arguments ends.
+-- Passing arguments ends, and what keeps the lent slices' lengths.
 pub mod Falls
+pub mod Keeps

@@ -47,7 +47,8 @@ fn done_by<K: Kind>(t: &[u64; 768], m: &mut Lent, s: Site) -> Gone
     e.gone
 }
 
-// The instruction at a site. One that does not stay in its frame is not done here.
+// The instruction at a site. One that does not stay in its frame is not done here. Each opcode of these has an arm of its own: several in
+// one arm are compiled as a test apart from the table of arms, and a step of nop or of a class passes it.
 pub fn perform(t: &[u64; 768], m: &mut Lent, s: Site) -> Gone
     ensures after { done result (held m.new) ≡ performed t.now (held m.old) s }
     ensures same { Same m.old m.new }
@@ -59,7 +60,12 @@ pub fn perform(t: &[u64; 768], m: &mut Lent, s: Site) -> Gone
         9 => done_by::<Iput>(t, m, s),
         10 => done_by::<Sget>(t, m, s),
         11 => done_by::<Sput>(t, m, s),
-        7 | 12 | 13 | 16 | 17 | 18 => site::left(s),
+        7 => site::left(s),
+        12 => site::left(s),
+        13 => site::left(s),
+        16 => site::left(s),
+        17 => site::left(s),
+        18 => site::left(s),
         19 | 20 => done_by::<Class>(t, m, s),
         _ => done_by::<Plain>(t, m, s),
     }

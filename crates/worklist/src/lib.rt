@@ -23,7 +23,7 @@ fn visit<'a>(sets: &'a Sets<'a>, w: &mut [u64; 9712], m: usize, pc: usize) -> u6
         (Formed p → Upward p c d) }
 {
     if m < program::method_count(sets.tables) && pc < program::code_length(sets.tables, m) {
-        return transfer::raise_at(sets, w, m, pc);
+        return transfer::raise_by(sets, w, m, pc);
     }
     0
 }
@@ -67,7 +67,7 @@ fn go_on<'a>(sets: &'a Sets<'a>, w: &mut [u64; 9712], waits: &mut Waits, m: usiz
         let d = claim_in w.new in
         (Formed p → m < method_count p → pc < code_length p m → Risen p m pc c d) }
 {
-    transfer::raise_at(sets, &mut *w, m, pc);
+    transfer::raise_by(sets, &mut *w, m, pc);
     waits.add_all(sets.tables);
     work(sets, w, waits, 1000000)
 }
@@ -92,7 +92,8 @@ pub fn fill(t: &[u64; 768], w: &mut [u64; 9712])
         let d = claim_in w.new in
         (Formed p → w.old ≡ no_masks → Least p d) }
 {
-    let sets = Sets::of(t);
+    let mut words = [0; 80];
+    let sets = Sets::of(t, &mut words);
     let mut waits = Waits::none();
     waits.list_readers(t);
     fill_by(&sets, w, &mut waits)

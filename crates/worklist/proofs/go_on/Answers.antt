@@ -9,6 +9,6 @@ returns c =
       risen = λ formed lm lp.
           let a = c.args in
           let p = program_in a.sets.now.tables.now in
-          let risen = raised_risen p a.m a.pc _ _ lm lp (c.raise_at.ensures.raised formed lm lp) in
+          let risen = raised_risen p a.m a.pc _ _ lm lp (c.raise_by.ensures.raised formed lm lp) in
           risen_then p a.m a.pc _ _ _ risen (c.work.ensures.upward formed);
     }

@@ -14,5 +14,5 @@ returns-then-pc-code_length c =
           let p = program_in a.sets.now.tables.now in
           let lm : a.m < method_count p = omega (arith, c.method_count.ensures.value) in
           let lp : a.pc < code_length p a.m = omega (arith, c.code_length.ensures.value) in
-          risen_upward p a.m a.pc _ _ (raised_risen p a.m a.pc _ _ lm lp (c.raise_at.ensures.raised formed lm lp));
+          risen_upward p a.m a.pc _ _ (raised_risen p a.m a.pc _ _ lm lp (c.raise_by.ensures.raised formed lm lp));
     }

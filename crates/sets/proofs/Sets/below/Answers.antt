@@ -10,7 +10,7 @@ returns-then-c-lt60 c = record {
   bits = λ k.
       let s = c.args.self.now in
       let p = program_in s.tables.now in
-      word_bits p (classes_limit s.tables.now) s.words s.made c.args.c k (omega arith) ∙ sym (below_in_lem p c.args.c k (omega arith));
+      word_bits p (classes_limit s.tables.now) s.words.now s.made c.args.c k (omega arith) ∙ sym (below_in_lem p c.args.c k (omega arith));
 }
 
 pub returns-else-c-lt60 : goal.returns-else-c-lt60

@@ -10,5 +10,5 @@ returns c = record {
   bits = λ k.
       let s = c.args.self.now in
       let p = program_in s.tables.now in
-      word_bits p (classes_limit s.tables.now) s.words s.made 60 k (omega arith) ∙ sym (all_in p 60 k (omega arith) (omega arith));
+      word_bits p (classes_limit s.tables.now) s.words.now s.made 60 k (omega arith) ∙ sym (all_in p 60 k (omega arith) (omega arith));
 }

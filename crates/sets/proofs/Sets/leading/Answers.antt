@@ -27,7 +27,7 @@ returns-then-is_named c = record {
       let is-named = sym c.is_named.ensures.value ∙ c.if-is_named.true in
       c.common.ensures.bits k
       ∙ ap (◌&&◌ (has a.mask k))
-      (word_bits p few s.words s.made (64 + a.q) k (omega arith)
+      (word_bits p few s.words.now s.made (64 + a.q) k (omega arith)
       ∙ sym (leading_in p (64 + a.q) k (omega arith))
       ∙ ap (λ (i : ℕ). ltb k (class_count p) && leads p i k) same
       ∙ ap (◌&&◌ (ltb k (class_count p))) (named_leads p few a.name a.count a.q k is-named))

@@ -20,11 +20,11 @@ returns c =
           let s = a.self.now in
           let p = program_of s in
           let cl = claim_in a.w.now in
-          let bits : (k : ℕ) → has c.passing-value.result k ≡ has (cl (register_at s.method s.address a.register)) k && passes_cast p a.class k =
-          rw c.mask-mask.ensures.value at c.passing-value.ensures.bits in
+          let bits : (k : ℕ) → has c.passing_by-value.result k ≡ has (cl (register_at s.method s.address a.register)) k && passes_cast p a.class k =
+          rw c.mask-mask.ensures.value at c.passing_by-value.ensures.bits in
           raised_after _ _ _ _ _ _ _
           (c.written-new.ensures.raised (cast_into p s.method s.address a.register a.class)
-          (gives_cast p s.method s.address a.register a.class c.passing-value.result cl bits)
+          (gives_cast p s.method s.address a.register a.class c.passing_by-value.result cl bits)
           formed
           lm
           lp

@@ -19,5 +19,5 @@ returns c =
           let cl = claim_in a.w.now in
           let is : c.fails_cast-fails.result ≡ fails_cast p (cl (register_at s.method s.address a.register)) a.class =
           c.fails_cast-fails.ensures.value ∙ ap (λ (x : Mask). fails_cast p x a.class) c.mask-mask.ensures.value in
-          cast_raised p s.method s.address cl _ c.fails_cast-fails.result a.register a.class is (c.own.ensures.raised (omega arith) formed lm);
+          cast_raised p s.method s.address cl _ c.fails_cast-fails.result a.register a.class is (c.own_by.ensures.raised (omega arith) formed lm);
     }

@@ -28,5 +28,5 @@ returns c =
           _
           _
           (raised_into from into (claim_in a.w.now) _ (joined (own_inside p formed into (lm, lp))))
-          (leaving_raised p s.method s.address a.q _ _ (rw c.mask-out.ensures.value at (c.raised.ensures.raised formed lm)));
+          (leaving_raised p s.method s.address a.q _ _ (rw c.mask-out.ensures.value at (c.raised_by.ensures.raised formed lm)));
     }

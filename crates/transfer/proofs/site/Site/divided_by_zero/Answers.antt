@@ -25,5 +25,5 @@ returns c =
             | then-divides w ↦ rw (w.by_zero-is, ← c.divides.ensures.value, w.if-divides.true, ← c.mask-mask.ensures.value) w.has-by_zero.ensures.value
             | else-divides w ↦ rw (w.by_zero-is, ← c.divides.ensures.value, w.if-divides.false)
           ] in
-          zero_raised p s.method s.address cl _ c.if-divides.by_zero a.operation a.divisor zero (c.own.ensures.raised (omega arith) formed lm);
+          zero_raised p s.method s.address cl _ c.if-divides.by_zero a.operation a.divisor zero (c.own_by.ensures.raised (omega arith) formed lm);
     }

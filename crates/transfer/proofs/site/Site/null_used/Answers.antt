@@ -19,5 +19,5 @@ returns c =
           let cl = claim_in a.w.now in
           let is : c.has.result ≡ has (cl (register_at s.method s.address a.object)) 62 =
           c.has.ensures.value ∙ ap (λ (x : Mask). has x 62) c.mask-mask.ensures.value in
-          null_raised p s.method s.address cl _ c.has.result a.object is (c.own.ensures.raised (omega arith) formed lm);
+          null_raised p s.method s.address cl _ c.has.result a.object is (c.own_by.ensures.raised (omega arith) formed lm);
     }

@@ -25,6 +25,6 @@ returns c =
           let bits : (k : ℕ) → has c.common-throwable.result k ≡ has from k && (ltb k (class_count p) && below p k 1) =
           λ k. c.common-throwable.ensures.bits k ∙ rw (c.below.ensures.bits k, c.mask-mask.ensures.value) in
           raised_beside _ _ _ _ _ _ _
-          (thrown_raised p s.method s.address a.from c.common-throwable.result cl _ bits (c.raised-new.ensures.raised formed lm))
+          (thrown_raised p s.method s.address a.from c.common-throwable.result cl _ bits (c.raised_by-new.ensures.raised formed lm))
           (c.null_used.ensures.raised formed lm);
     }

@@ -1,4 +1,4 @@
--- `transfer::raise_at` meets its contract. Assumes nothing.
+-- `transfer::raise_by` meets its contract. Assumes nothing.
 use lib.Dec.{eqb}
 use mathlib.Core.Bool.{◌&&◌}
 use native.Mathlib.Omega.{arith}
@@ -9,7 +9,7 @@ use Rattle.flow.specs.Rules.{initial_memory, entry, rules_of}
 use Rattle.flow.proofs.Decided.{next_inside}
 use Rattle.order.specs.Raised.{all_of}
 use Rattle.order.proofs.Raising.{raised_both}
-use Rattle.transfer.proofs.raise_at.Goals as goal
+use Rattle.transfer.proofs.raise_by.Goals as goal
 
 pub returns : goal.returns
 returns c =

@@ -1,9 +1,9 @@
--- `raise::exceptions::own` meets its contract. Assumes nothing.
+-- `raise::exceptions::own_by` meets its contract. Assumes nothing.
 use Rattle.program.specs.Tables.{program_in}
 use Rattle.slots.specs.Layout.{claim_in}
 use Rattle.raise.proofs.MaskBits.{one_bit}
 use Rattle.raise.proofs.AtOnce.{own_raised, own_none}
-use Rattle.raise.proofs.exceptions.own.Goals as goal
+use Rattle.raise.proofs.exceptions.own_by.Goals as goal
 
 pub returns-then-may : goal.returns-then-may
 returns-then-may c =
@@ -14,7 +14,7 @@ returns-then-may c =
           c.if-may.true
           _
           _
-          (c.raised.ensures.raised formed lm);
+          (c.raised_by.ensures.raised formed lm);
     }
 
 pub returns-else-may : goal.returns-else-may

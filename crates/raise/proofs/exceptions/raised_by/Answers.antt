@@ -1,9 +1,9 @@
--- `raise::exceptions::raised` meets its contract: of no class nothing flows. Assumes nothing.
+-- `raise::exceptions::raised_by` meets its contract: of no class nothing flows. Assumes nothing.
 use mathlib.Core.Path.{sym, ◌∙◌}
 use Rattle.program.specs.Tables.{program_in}
 use Rattle.slots.specs.Layout.{claim_in}
 use Rattle.raise.proofs.AtOnce.{none_raised}
-use Rattle.raise.proofs.exceptions.raised.Goals as goal
+use Rattle.raise.proofs.exceptions.raised_by.Goals as goal
 
 pub returns-then-is_empty : goal.returns-then-is_empty
 returns-then-is_empty c =

@@ -1,8 +1,8 @@
--- `raise::masks::passing` meets its contract. Assumes nothing.
+-- `raise::masks::passing_by` meets its contract. Assumes nothing.
 use mathlib.Core.Path.{◌∙◌}
 use native.Mathlib.Omega.{arith}
 use Rattle.raise.proofs.MaskBits.{below_64}
-use Rattle.raise.proofs.masks.passing.Goals as goal
+use Rattle.raise.proofs.masks.passing_by.Goals as goal
 
 pub returns : goal.returns
 returns c =

@@ -1,0 +1,2 @@
+-- What keeps the lent slices' lengths.
+pub mod Keeps
